@@ -1,0 +1,27 @@
+-- A syntax tree as plain data: what contracts say of a `Tree` they say of this.
+use Rattle.std.specs.Prelude.{ℕ, Bool, List, Option}
+use Rattle.tree_core.specs.declared.scalars.Scalar.{Scalar}
+use Rattle.tree_core.specs.declared.comment.Comment.{Comment}
+use Rattle.tree_core.specs.declared.tree.PlaceName.{PlaceName}
+
+-- the comments before, after and inside a node
+pub record Notes : Type 0 where
+  pub lead : List Comment
+  pub trail : List Comment
+  pub inner : List Comment
+
+mutual
+  -- a kind's number, scalars, slots, comments, and the number of the source node that it comes from
+  pub data Syntax : Type 0 where
+    node : ℕ → List Scalar → Slots → Notes → Option ℕ → Syntax
+
+  -- slots in order; the truth says whether the slot is a list
+  pub data Slots : Type 0 where
+    no_slots : Slots
+    slot : Bool → Places → Slots → Slots
+
+  -- places in order, each with its name in the source, empty or filled
+  pub data Places : Type 0 where
+    no_places : Places
+    hole : Option PlaceName → Places → Places
+    place : Option PlaceName → Syntax → Places → Places

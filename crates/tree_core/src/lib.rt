@@ -1,0 +1,20 @@
+//! Uniform syntax trees, seen by contracts as plain data: kinds, scalars, slots of places, comments.
+//!
+//! This is the lowest crate of the tree's side: readers make trees, the arena loads and unloads
+//! them, the patcher walks them. What holds of every kind stands here; what a kind has stands in
+//! the table of kinds.
+#![tactic(auto)]
+
+mod comment;
+mod lists;
+mod scalars;
+mod span;
+mod tree;
+mod units;
+
+pub use comment::{Comment, Comments};
+pub use lists::{Bytes, Name, Names, Numbers, Truths};
+pub use scalars::{Scalar, Scalars};
+pub use span::{CommentSpans, Parsed, Span, Spans};
+pub use tree::{Place, PlaceName, Slot, Tree};
+pub use units::Units;
