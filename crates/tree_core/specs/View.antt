@@ -1,5 +1,5 @@
 -- The plain tree that a `Tree` stands for: one fold.
-use Rattle.std.specs.Prelude.{Bool, false, true, List, [], ◌∷◌, map, Option, Some, None}
+use Rattle.std.specs.Prelude.{Bool, false, true, List, [], ◌∷◌, Option, Some, None}
 use Rattle.tree_core.specs.declared.tree.Tree.{Tree, fold-Tree, Tree-F}
 use Rattle.tree_core.specs.declared.tree.Slot.{Slot, fold-Slot}
 use Rattle.tree_core.specs.declared.tree.Slot.TheOpen.{Slot-F}
