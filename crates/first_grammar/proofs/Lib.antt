@@ -1,2 +1,5 @@
 pub mod Tokens
 pub mod Forms
+pub mod Bares
+pub mod Reach
+pub mod Complete
