@@ -74,3 +74,9 @@ adds_through r new last n scalars ss rows a b = record {
   scalars_are = b.scalars_are ∙ ap (λ z. z ++ scalars) a.scalars_are ∙ append_assoc r.0 n scalars;
   rows_are = b.rows_are ∙ ap (λ z. z ++ bare_rows rows) a.rows_are ∙ append_assoc (bare_rows r.1) (bare_rows ss) (bare_rows rows) ∙ ap (λ z. bare_rows r.1 ++ z) (sym (map-append bare_row ss rows));
 }
+
+pub spots_last : (found : List Spot) (name : Option PlaceName) (u x : Syntax) → bare u ≡ bare x → bare_spots (found ++ (None, Some u) ∷ []) ≡ bare_spots found ++ bare_spots ((name, Some x) ∷ [])
+spots_last found name u x e = map-append bare_spot found ((None, Some u) ∷ []) ∙ ap (λ z. bare_spots found ++ (None, Some z) ∷ []) e
+
+pub spots_more : (found xs : List Spot) (name : Option PlaceName) (u x : Syntax) → bare u ≡ bare x → bare_spots (found ++ (None, Some u) ∷ []) ++ bare_spots xs ≡ bare_spots found ++ bare_spots ((name, Some x) ∷ xs)
+spots_more found xs name u x e = ap (λ z. z ++ bare_spots xs) (spots_last found name u x e) ∙ append_assoc (bare_spots found) (bare_spots ((name, Some x) ∷ [])) (bare_spots xs)
