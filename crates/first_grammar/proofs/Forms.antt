@@ -130,6 +130,17 @@ led_not_end k.Call word e = let is : w.OpenParen ≡ word = cc in subst (λ z. i
 led_not_end k.Assignment word e = let is : w.Assign ≡ word = cc in subst (λ z. is_end z ≡ false) is refl
 led_not_end _ word e = absurd cc
 
+pub led_inner : (kind : Kind) (word : Word) → infix_word kind ≡ Some word → is_whole kind ≡ false
+led_inner k.Member word e = refl
+led_inner k.Call word e = refl
+led_inner k.Assignment word e = refl
+led_inner _ word e = absurd cc
+
+pub name_not_end : (word : Word) → is_name_word word ≡ true → is_end word ≡ false
+name_not_end w.Name e = refl
+name_not_end w.Reserved e = refl
+name_not_end _ e = absurd cc
+
 pub belongs_reads : (kind : Kind) (d : Category) → belongs kind d ≡ true → belongs kind (reads_as d) ≡ true
 belongs_reads k.Identifier c.Target b = refl
 belongs_reads k.Member c.Target b = refl
