@@ -1,9 +1,9 @@
 -- Rows without numbers and place names.
-use Rattle.std.proofs.Common.{◌≡◌, ◌<◌, ℕ, Bool, true, false, List, [], ◌∷◌, ◌++◌, map, Option, Some, None, refl, sym, ◌∙◌, ap, arith, append_assoc, append-nil}
+use Rattle.std.proofs.Common.{◌≡◌, ◌<◌, ℕ, true, false, List, [], ◌∷◌, ◌++◌, map, Option, Some, None, refl, sym, ◌∙◌, ap, arith, append_assoc, append-nil}
 use Rattle.std.proofs.lemmas.List.{map-append}
 use Rattle.tree_core.specs.declared.scalars.Scalar.{Scalar}
 use Rattle.tree_core.specs.declared.tree.PlaceName.{PlaceName}
-use Rattle.tree_core.specs.Syntax.{Syntax, node, Slots, no_slots, slot, Places, no_places, hole, place}
+use Rattle.tree_core.specs.Syntax.{Syntax, node, slot, no_places, hole, place}
 use Rattle.tree_core.specs.View.{Spot, Row, slots_of, places_of}
 use Rattle.tree_core.specs.Bare.{bare, bare_slots, bare_places}
 use Rattle.tree_core.specs.Height.{height, slots_height, places_height}

@@ -1,5 +1,5 @@
 -- What is spelled is read, unless it nests too deep.
-use Rattle.std.proofs.Common.{◌≡◌, ◌≤◌, ◌<◌, ◌+◌, ◌-◌, ℕ, zero, suc, Bool, true, false, cond, ◌&&◌, nat_le, ◌⊎◌, inl, inr, List, [], ◌∷◌, ◌++◌, Option, Some, None, Result, Ok, Err, refl, sym, ◌∙◌, ap, subst, arith, length, append-nil}
+use Rattle.std.proofs.Common.{◌≡◌, ◌≤◌, ◌<◌, ◌+◌, ◌-◌, ℕ, zero, suc, Bool, true, false, nat_le, ◌⊎◌, inl, inr, List, [], ◌∷◌, ◌++◌, Option, Some, None, Ok, Err, refl, sym, ◌∙◌, ap, subst, arith, length, append-nil}
 use Rattle.std.specs.Prelude.{IsTrue, nat_lt, if◌then◌else◌, slice_index, slice_range}
 use Rattle.std.proofs.lemmas.Bool.{and_from, le-leb, ltb-true, ltb-false}
 use Rattle.tree_core.specs.declared.scalars.Scalar.{Scalar}
@@ -7,7 +7,7 @@ use Rattle.tree_core.specs.declared.scalars.Scalar.TheVariants as scalar
 use Rattle.tree_core.specs.declared.span.Span.{Span}
 use Rattle.tree_core.specs.declared.tree.PlaceName.{PlaceName}
 use Rattle.tree_core.specs.Syntax.{Syntax}
-use Rattle.tree_core.specs.View.{Spot, Row, slots_of, places_of}
+use Rattle.tree_core.specs.View.{Spot, Row}
 use Rattle.tree_core.specs.Bare.{bare}
 use Rattle.tree_core.specs.Height.{height}
 use Rattle.first_grammar.specs.declared.cursor.Token.{Token}
@@ -18,16 +18,15 @@ use Rattle.first_grammar.specs.declared.table.Category.{Category}
 use Rattle.first_grammar.specs.declared.table.Category.TheVariants as c
 use Rattle.first_grammar.specs.declared.table.Part.{Part}
 use Rattle.first_grammar.specs.declared.table.Part.TheVariants as p
-use Rattle.first_grammar.specs.declared.error.ReadError.{ReadError}
-use Rattle.first_grammar.specs.declared.error.ReadError.TheVariants.{NoMemory, Unexpected, Nesting}
+use Rattle.first_grammar.specs.declared.error.ReadError.TheVariants.{Nesting}
 use Rattle.first_grammar.specs.Table.{same_word, level, belongs, is_whole, left, infix_word, tail, form, led_by, begun_by}
 use Rattle.first_grammar.specs.Words.{is_name_word, is_blank, Blank, Scan}
-use Rattle.first_grammar.specs.Spells.{Said, Begins, Spells, formed, Node, built, Fills, no_parts, a_token, a_name, free_name, a_child, empty_list, a_list, a_body, Listed, last, more, InRow, row_end, row_next, node_of, one, all, Reads}
-use Rattle.first_grammar.specs.Input.{Input, Outcome, Reader, and_then, scan, word, opening, next, start_of, settled, turns, sees, after, eat, pure, numbered, begin}
-use Rattle.first_grammar.specs.Reading.{Read, made, Kinded, with_scalar, with_row, unnamed, choose, onward, listed_from, listed, in_row_from, in_row, part, parts, filled, begun, first, climb, climbed, whole, node, program, max_nesting}
+use Rattle.first_grammar.specs.Spells.{Said, Begins, Spells, formed, Node, built, Fills, no_parts, a_token, a_name, free_name, a_child, empty_list, a_list, a_body, Listed, last, more, InRow, row_end, row_next, node_of, one, all, Whole}
+use Rattle.first_grammar.specs.Input.{Input, Outcome, and_then, scan, word, opening, next, start_of, settled, sees, after, eat, pure, numbered, begin}
+use Rattle.first_grammar.specs.Reading.{Read, made, Kinded, with_scalar, with_row, unnamed, choose, listed_from, listed, in_row_from, in_row, part, parts, filled, begun, first, climb, climbed, whole, node}
 use Rattle.first_grammar.proofs.Tokens.{scan_is, scan_after, scan_begins, is_end, stands_order}
-use Rattle.first_grammar.proofs.Forms.{reads_as, is_program, can_start, Stop, Safe, Inner, Follows, StartsWith, Ends, FirstOf, moves, form_moves, led_form, bare_form, inner_kind, left_inner, level_left, led_back, led_not_end, led_inner, name_not_end, belongs_reads, left_reads, first_table, predicts, no_lead, program_stop, tail_ends}
-use Rattle.first_grammar.proofs.Bares.{bare_spots, bare_row, bare_rows, spots_height, rows_height, all_alike, one_alike, node_alike, some_height, Adds, adds_none, adds_scalar, adds_row, adds_through, spots_last, spots_more}
+use Rattle.first_grammar.proofs.Forms.{reads_as, is_program, can_start, Stop, Safe, Inner, Follows, Ends, FirstOf, moves, form_moves, led_form, bare_form, inner_kind, left_inner, level_left, led_back, led_not_end, led_inner, name_not_end, belongs_reads, left_reads, first_table, predicts, no_lead, program_stop, tail_ends}
+use Rattle.first_grammar.proofs.Bares.{bare_spots, bare_rows, spots_height, rows_height, all_alike, one_alike, node_alike, some_height, Adds, adds_none, adds_scalar, adds_row, adds_through, spots_last, spots_more}
 use Rattle.first_grammar.proofs.Reach.{put, Reach, reach_then, is_word, not_word, sees_it, goes_past, part_token, part_name, part_any_name, stop_none, choose_some, climb_stop}
 
 -- the reader comes from i to a tree that begins at b
@@ -130,8 +129,8 @@ child_reads : (s : List ℕ) (b e : ℕ) (d : Category) (l : ℕ) (x : Syntax) (
     → Reach (λ u. bare u ≡ bare x) s e (height x) depth (node depth d l (put s i spans))
 child_reads s b e d l x t depth i spans blank inner stop =
     subst (λ z. Reach (λ u. bare u ≡ bare x) s e (height x) depth (node depth z l (put s i spans))) inner.0
-      (node_reads s b e d l x t depth i spans (subst (λ z. Stop z l (scan s e).word) (sym inner.0) stop)
-        (subst (λ z. Arrives z s i b) (sym (inner_kind t.kind d t.belongs_there inner.1)) blank))
+    (node_reads s b e d l x t depth i spans (subst (λ z. Stop z l (scan s e).word) (sym inner.0) stop)
+    (subst (λ z. Arrives z s i b) (sym (inner_kind t.kind d t.belongs_there inner.1)) blank))
 
 -- ---- the parts of a form
 
@@ -151,8 +150,8 @@ part_child : (s : List ℕ) (i b e : ℕ) (d : Category) (l : ℕ) (x : Syntax) 
 unfolding part
 part_child s i b e d l x name t blank depth r spans f =
     reach_then (λ u. bare u ≡ bare x) (Adds r [] (one name x ∷ [])) s e e (height x) (height x) (height x) depth (node depth d l (put s i spans)) (λ u. pure (with_row r (one None u))) (omega arith) (omega arith)
-      (child_reads s b e d l x t depth i spans blank f.0 f.1)
-      (λ u spans' like. inl (with_row r (one None u), spans', refl, adds_row r (one None u) (one name x) (one_alike None name u x like)))
+    (child_reads s b e d l x t depth i spans blank f.0 f.1)
+    (λ u spans' like. inl (with_row r (one None u), spans', refl, adds_row r (one None u) (one name x) (one_alike None name u x like)))
 
 part_empty : (s : List ℕ) (i : ℕ) (d : Category) (l : ℕ) (close : Word) (depth : ℕ) (r : Read) (spans : List Span) → (scan s i).word ≡ close
     → Reach (Adds r [] (all [] ∷ [])) s i 0 depth (part (node depth) (p.List d l close) r (put s i spans))
@@ -168,15 +167,15 @@ part_list s i e d l close xs t depth r spans f =
     let got = t.reads depth (length s - i) [] spans (omega arith) f.0 f.1 comma in
     let all_of : Reach (Grown [] xs) s e (spots_height xs) depth (listed (node depth) d l close (put s i spans)) = rw no got in
     reach_then (Grown [] xs) (Adds r [] (all xs ∷ [])) s e e (spots_height xs) (spots_height xs) (spots_height xs) depth (listed (node depth) d l close (put s i spans)) (λ ys. pure (with_row r (all ys))) (omega arith) (omega arith) all_of
-      (λ ys spans' like. inl (with_row r (all ys), spans', refl, adds_row r (all ys) (all xs) (all_alike ys xs like)))
+    (λ ys spans' like. inl (with_row r (all ys), spans', refl, adds_row r (all ys) (all xs) (all_alike ys xs like)))
 
 part_body : (s : List ℕ) (i e : ℕ) (d : Category) (close : Word) (xs : List Spot) (t : RowReads s d i e xs) (depth : ℕ) (r : Read) (spans : List Span) → Follows (p.Body d close) (scan s e).word
     → Reach (Adds r [] (all xs ∷ [])) s e (spots_height xs) depth (part (node depth) (p.Body d close) r (put s i spans))
 unfolding part in_row
 part_body s i e d close xs t depth r spans f =
     reach_then (Grown [] xs) (Adds r [] (all xs ∷ [])) s e e (spots_height xs) (spots_height xs) (spots_height xs) depth (in_row (node depth) d close (put s i spans)) (λ ys. pure (with_row r (all ys))) (omega arith) (omega arith)
-      (t.reads depth (length s - i) close [] spans (omega arith) f.0 f.1 f.2 f.3)
-      (λ ys spans' like. inl (with_row r (all ys), spans', refl, adds_row r (all ys) (all xs) (all_alike ys xs like)))
+    (t.reads depth (length s - i) close [] spans (omega arith) f.0 f.1 f.2 f.3)
+    (λ ys spans' like. inl (with_row r (all ys), spans', refl, adds_row r (all ys) (all xs) (all_alike ys xs like)))
 
 no_parts_read : (s : List ℕ) (i : ℕ) → PartsRead s [] i i [] []
 no_parts_read s i = record { reads = λ depth r spans ends. inl (r, spans, refl, adds_none r) }
@@ -190,10 +189,10 @@ one_more P s q qs i k j n scalars ss rows h le lh fills f reads = record {
   reads = λ depth r spans ends.
       let split = ends_split P s q qs k j scalars rows fills ends in
       reach_then (Adds r n ss) (Adds r (n ++ scalars) (ss ++ rows)) s k j h (rows_height rows) (rows_height (ss ++ rows)) depth (part (node depth) q r (put s i spans)) (parts (node depth) qs) le lh (reads depth r spans split.0)
-        (λ new spans' a. elim (f.reads depth new spans' split.1) [
-          | inl g ↦ inl (g.0, g.1, g.2, adds_through r new g.0 n scalars ss rows a g.3)
-          | inr g ↦ inr g
-        ]);
+      (λ new spans' a. elim (f.reads depth new spans' split.1) [
+        | inl g ↦ inl (g.0, g.1, g.2, adds_through r new g.0 n scalars ss rows a g.3)
+        | inr g ↦ inr g
+      ]);
 }
 
 -- ---- a tree from its form
@@ -204,8 +203,8 @@ filled_reads : (s : List ℕ) (kind : Kind) (i j : ℕ) (scalars : List Scalar) 
 unfolding filled numbered
 filled_reads s kind i j scalars rows f x depth start r spans ends like =
     reach_then (Adds r scalars rows) (λ u. bare u ≡ bare x) s j j (rows_height rows) (rows_height rows) (rows_height rows) depth (parts (node depth) (tail kind) r (put s i spans)) (λ new. λ i. and_then (numbered start i) (λ from. pure (made kind new from)))
-      (omega arith) (omega arith) (f.reads depth r spans ends)
-      (λ new spans' a. inl (made kind new (length spans'), spans' ++ record { start = start; end = j } ∷ [], refl, like new (length spans') a))
+    (omega arith) (omega arith) (f.reads depth r spans ends)
+    (λ new spans' a. inl (made kind new (length spans'), spans' ++ record { start = start; end = j } ∷ [], refl, like new (length spans') a))
 
 arrives_word : (whole : Bool) (s : List ℕ) (i b : ℕ) → Arrives whole s i b → Begins whole s b → (scan s i).word ≡ (scan s b).word
 arrives_word true s i b is begins = ap (λ z. (scan s z).word) is
@@ -230,12 +229,12 @@ begun_reads s d least kind b e scalars rows f from depth i spans here le pre beg
     let start : ℕ = start_of kind i (opening (put s i spans)) in
     let read = filled_reads s kind b e scalars rows f x depth start ([], []) spans ends (λ new from' a. node_alike kind new.0 scalars new.1 rows (Some from') from a.scalars_are a.rows_are) in
     let pair : Reach (Like x kind) s e (rows_height rows) depth (and_then (filled (node depth) kind start ([], []) (put s b spans)) (λ u. pure (u, kind))) =
-          reach_then (λ u. bare u ≡ bare x) (Like x kind) s e e (rows_height rows) (rows_height rows) (rows_height rows) depth (filled (node depth) kind start ([], []) (put s b spans)) (λ u. pure (u, kind))
-            (omega arith) (omega arith) read (λ u spans' like. inl ((u, kind), spans', refl, (like, refl))) in
+    reach_then (λ u. bare u ≡ bare x) (Like x kind) s e e (rows_height rows) (rows_height rows) (rows_height rows) depth (filled (node depth) kind start ([], []) (put s b spans)) (λ u. pure (u, kind))
+    (omega arith) (omega arith) read (λ u spans' like. inl ((u, kind), spans', refl, (like, refl))) in
     let there : Reach (Like x kind) s e (rows_height rows) depth (and_then (filled (node depth) kind start ([], []) (settled kind (put s i spans))) (λ u. pure (u, kind))) =
-          subst (λ z. Reach (Like x kind) s e (rows_height rows) depth (and_then (filled (node depth) kind start ([], []) z) (λ u. pure (u, kind)))) (sym (arrives_settled s kind i b spans arrives begins)) pair in
+    subst (λ z. Reach (Like x kind) s e (rows_height rows) depth (and_then (filled (node depth) kind start ([], []) z) (λ u. pure (u, kind)))) (sym (arrives_settled s kind i b spans arrives begins)) pair in
     let tested : Reach (Like x kind) s e (rows_height rows) depth (begun (node depth) (Some kind) d least (put s i spans)) =
-          rw (and_from (belongs kind d) (nat_le least (level kind)) here (le-leb _ _ le)) there in
+    rw (and_from (belongs kind d) (nat_le least (level kind)) here (le-leb _ _ le)) there in
     let word_is : begun_by d (scan s i).word ≡ Some kind = ap (λ z. begun_by d z) (arrives_word (is_whole kind) s i b arrives begins) ∙ pre in
     subst (λ z. Reach (Like x kind) s e (rows_height rows) depth (begun (node depth) z d least (put s i spans))) (sym word_is) tested
 
@@ -247,8 +246,15 @@ after_first s e h depth d least x kind i low (inl g) =
     let start : ℕ = start_of (g.0).1 i.at (opening i) in
     let on = λ (u : Kinded). climbed (node depth) d least (start_of u.1 i.at (opening i)) u in
     subst (λ z. After s e depth least d x z (and_then (first (node depth) d least i) on)) g.3.1
-      (inl (length s - e, start, (g.0).0, g.1, omega arith, g.3.0,
-        subst (λ z. and_then z on ≡ climb (node depth) d least start (length s - e) (g.0).0 (g.0).1 (put s e g.1)) (sym g.2) refl))
+    (inl (
+      length s - e,
+      start,
+      (g.0).0,
+      g.1,
+      omega arith,
+      g.3.0,
+      subst (λ z. and_then z on ≡ climb (node depth) d least start (length s - e) (g.0).0 (g.0).1 (put s e g.1)) (sym g.2) refl,
+    ))
 after_first s e h depth d least x kind i low (inr g) =
     let on = λ (u : Kinded). climbed (node depth) d least (start_of u.1 i.at (opening i)) u in
     inr (g.0, subst (λ z. and_then z on ≡ Err (Nesting g.0)) (sym g.1) refl, omega arith)
@@ -267,8 +273,8 @@ bare_reads s d l kind b e scalars rows from here le begins none f =
       high = le;
       reads = λ depth least i spans low safe arrives.
           after_first s e (rows_height rows) depth (reads_as d) least (node_of kind scalars rows from) kind (put s i spans) (omega arith)
-            (begun_reads s (reads_as d) least kind b e scalars rows g from depth i spans (belongs_reads kind d here) (omega arith) (predicts kind d (scan s b).word here none f.first_of) begins
-              (tail_ends kind d l (scan s e).word here le safe) arrives);
+          (begun_reads s (reads_as d) least kind b e scalars rows g from depth i spans (belongs_reads kind d here) (omega arith) (predicts kind d (scan s b).word here none f.first_of) begins
+          (tail_ends kind d l (scan s e).word here le safe) arrives);
     }
 
 -- a tree that goes on, after the token that leads its form
@@ -283,11 +289,11 @@ climb_on s e b' e' j h depth d least start (suc n) u x was kind k spans ch token
     let order = stands_order s k b' e' token.stands in
     let on = λ (y : Syntax). climb (node depth) d least start n y kind in
     let all_of : After s j depth least d x kind (and_then (filled (node depth) kind start ([], one None u ∷ []) (next (put s e spans))) on) =
-          subst (λ z. After s j depth least d x kind (and_then (filled (node depth) kind start ([], one None u ∷ []) z) on)) (sym (goes_past s k e b' e' spans token))
-            (elim got [
-              | inl g ↦ inl (n, start, g.0, g.1, omega (arith, order.moves some, token.blank.order), g.3, subst (λ z. and_then z on ≡ climb (node depth) d least start n g.0 kind (put s j g.1)) (sym g.2) refl)
-              | inr g ↦ inr (g.0, subst (λ z. and_then z on ≡ Err (Nesting g.0)) (sym g.1) refl, omega arith)
-            ]) in
+    subst (λ z. After s j depth least d x kind (and_then (filled (node depth) kind start ([], one None u ∷ []) z) on)) (sym (goes_past s k e b' e' spans token))
+    (elim got [
+      | inl g ↦ inl (n, start, g.0, g.1, omega (arith, order.moves some, token.blank.order), g.3, subst (λ z. and_then z on ≡ climb (node depth) d least start n g.0 kind (put s j g.1)) (sym g.2) refl)
+      | inr g ↦ inr (g.0, subst (λ z. and_then z on ≡ Err (Nesting g.0)) (sym g.1) refl, omega arith)
+    ]) in
     rw ch all_of
 
 led_safe : (kind : Kind) (k : Word) (d : Category) (word : Word) → led_by k ≡ Some kind → word ≡ k → Safe d (left kind).1 word
@@ -327,14 +333,14 @@ led_here s d l kind k b b1 e1 b2 e2 e name y scalars rows from here le led inner
       let come : Arrives (is_whole child.kind) s i b1 = subst (λ z. Arrives z s i b1) (sym (inner_kind child.kind (left kind).0 child.belongs_there (left_inner kind))) (blank_through s i b b1 blanks blank) in
       let read = child.reads depth least i spans (omega (arith, level_left kind k led)) (led_safe kind k (reads_as (left kind).0) (scan s e1).word back word_is) come in
       let moved : After s e1 depth least (reads_as d) y child.kind (whole (node depth) (reads_as d) least (put s i spans)) =
-            subst (λ z. After s e1 depth least z y child.kind (whole (node depth) z least (put s i spans))) (left_reads kind d k led here) read in
+      subst (λ z. After s e1 depth least z y child.kind (whole (node depth) z least (put s i spans))) (left_reads kind d k led here) read in
       let high = child.high in
       elim moved [
         | inl h ↦
             let led_there : led_by (scan s e1).word ≡ Some kind = ap led_by word_is ∙ back in
             let ch = choose_some (reads_as d) least child.kind (scan s e1).word kind led_there (belongs_reads kind d here) (omega arith) child.belongs_there high in
             let got = filled_reads s kind e2 e scalars rows remains x depth h.1 ([], one None h.2 ∷ []) h.3 (tail_ends kind d l (scan s e).word here le safe)
-                  (λ new from' a. node_alike kind new.0 scalars new.1 (one name y ∷ rows) (Some from') from a.scalars_are (a.rows_are ∙ ap (λ z. z ∷ bare_rows rows) (one_alike None name h.2 y h.5))) in
+            (λ new from' a. node_alike kind new.0 scalars new.1 (one name y ∷ rows) (Some from') from a.scalars_are (a.rows_are ∙ ap (λ z. z ∷ bare_rows rows) (one_alike None name h.2 y h.5))) in
             let on = climb_on s e1 b2 e2 e (rows_height rows) depth (reads_as d) least h.1 h.0 h.2 x child.kind kind k h.3 ch token (led_not_end kind k led) h.4 past (omega arith) got in
             subst (λ z. After s e depth least (reads_as d) x kind z) (sym h.6) on
         | inr h ↦ inr (h.0, h.1, omega arith)
@@ -367,9 +373,9 @@ unfolding listed_from
 last_reads s d l i b e name x t blank depth zero found spans room inner stop comma = absurd (omega (arith, (child_begins s b e d l x t inner.1).0, blank.order))
 last_reads s d l i b e name x t blank depth (suc n) found spans room inner stop comma =
     reach_then (λ u. bare u ≡ bare x) (Grown found ((name, Some x) ∷ [])) s e e (height x) (height x) (height x) depth (node depth d l (put s i spans))
-      (λ u. λ i. and_then (eat w.Comma i) (λ more. if more then listed_from (node depth) d l n (found ++ unnamed u ∷ []) else pure (found ++ unnamed u ∷ [])))
-      (omega arith) (omega arith) (child_reads s b e d l x t depth i spans blank inner stop)
-      (λ u spans' like. inl (found ++ unnamed u ∷ [], spans', rw comma refl, spots_last found name u x like))
+    (λ u. λ i. and_then (eat w.Comma i) (λ more. if more then listed_from (node depth) d l n (found ++ unnamed u ∷ []) else pure (found ++ unnamed u ∷ [])))
+    (omega arith) (omega arith) (child_reads s b e d l x t depth i spans blank inner stop)
+    (λ u spans' like. inl (found ++ unnamed u ∷ [], spans', rw comma refl, spots_last found name u x like))
 
 more_reads : (s : List ℕ) (d : Category) (l i b e b' e' j : ℕ) (name : Option PlaceName) (x : Syntax) (xs : List Spot) (t : TreeReads s b e d l x) → Blank s i b → Scan s e w.Comma b' e' → (r : ListReads s d l e' j xs)
     → (depth n : ℕ) (found : List Spot) (spans : List Span) → length s ≤ i + n → Inner d → Stop d l (scan s j).word
@@ -381,17 +387,17 @@ more_reads s d l i b e b' e' j name x xs t blank token r depth (suc n) found spa
     let ahead : length s ≤ e' + n = omega (arith, room, order.moves refl, token.blank.order, t.order, blank.order) in
     let word_is : (scan s e).word ≡ w.Comma = ap (λ (z : Token). z.word) (scan_is s e w.Comma b' e' token) in
     reach_then (λ u. bare u ≡ bare x) (Grown found ((name, Some x) ∷ xs)) s e j (height x) (spots_height xs) (spots_height ((name, Some x) ∷ xs)) depth (node depth d l (put s i spans))
-      (λ u. λ i. and_then (eat w.Comma i) (λ more. if more then listed_from (node depth) d l n (found ++ unnamed u ∷ []) else pure (found ++ unnamed u ∷ [])))
-      (omega arith) (omega arith) (child_reads s b e d l x t depth i spans blank inner (no_lead d l w.Comma refl (scan s e).word word_is))
-      (λ u spans' like.
-        let go : Reach (Grown found ((name, Some x) ∷ xs)) s j (spots_height xs) depth (listed_from (node depth) d l n (found ++ unnamed u ∷ []) (put s e' spans')) =
-              elim (r.reads depth n (found ++ unnamed u ∷ []) spans' ahead inner stop comma) [
-                | inl g ↦ inl (g.0, g.1, g.2, g.3 ∙ spots_more found xs name u x like)
-                | inr g ↦ inr g
-              ] in
-        let past : Reach (Grown found ((name, Some x) ∷ xs)) s j (spots_height xs) depth (listed_from (node depth) d l n (found ++ unnamed u ∷ []) (next (put s e spans'))) =
-              subst (λ z. Reach (Grown found ((name, Some x) ∷ xs)) s j (spots_height xs) depth (listed_from (node depth) d l n (found ++ unnamed u ∷ []) z)) (sym (goes_past s w.Comma e b' e' spans' token)) go in
-        rw (sees_it s w.Comma e b' e' spans' token) past)
+    (λ u. λ i. and_then (eat w.Comma i) (λ more. if more then listed_from (node depth) d l n (found ++ unnamed u ∷ []) else pure (found ++ unnamed u ∷ [])))
+    (omega arith) (omega arith) (child_reads s b e d l x t depth i spans blank inner (no_lead d l w.Comma refl (scan s e).word word_is))
+    (λ u spans' like.
+    let go : Reach (Grown found ((name, Some x) ∷ xs)) s j (spots_height xs) depth (listed_from (node depth) d l n (found ++ unnamed u ∷ []) (put s e' spans')) =
+    elim (r.reads depth n (found ++ unnamed u ∷ []) spans' ahead inner stop comma) [
+      | inl g ↦ inl (g.0, g.1, g.2, g.3 ∙ spots_more found xs name u x like)
+      | inr g ↦ inr g
+    ] in
+    let past : Reach (Grown found ((name, Some x) ∷ xs)) s j (spots_height xs) depth (listed_from (node depth) d l n (found ++ unnamed u ∷ []) (next (put s e spans'))) =
+    subst (λ z. Reach (Grown found ((name, Some x) ∷ xs)) s j (spots_height xs) depth (listed_from (node depth) d l n (found ++ unnamed u ∷ []) z)) (sym (goes_past s w.Comma e b' e' spans' token)) go in
+    rw (sees_it s w.Comma e b' e' spans' token) past)
 
 row_reads : (s : List ℕ) (d : Category) (i b e j : ℕ) (name : Option PlaceName) (x : Syntax) (xs : List Spot) (t : TreeReads s b e d 1 x) → Blank s i b → (r : RowReads s d e j xs)
     → (depth n : ℕ) (close : Word) (found : List Spot) (spans : List Span) → length s ≤ i + n → Inner d → ((other : Word) → Stop d 1 other) → (scan s j).word ≡ close → can_start d close ≡ false
@@ -402,13 +408,13 @@ row_reads s d i b e j name x xs t blank r depth (suc n) close found spans room i
     let ahead : length s ≤ e + n = omega (arith, room, t.longer (inner_kind t.kind d t.belongs_there inner.1), blank.order) in
     let starts = child_starts s i b e d 1 x t blank inner.1 in
     rw (not_word (can_start d) (scan s i).word close starts bar)
-      (reach_then (λ u. bare u ≡ bare x) (Grown found ((name, Some x) ∷ xs)) s e j (height x) (spots_height xs) (spots_height ((name, Some x) ∷ xs)) depth (node depth d 1 (put s i spans))
-        (λ u. in_row_from (node depth) d close n (found ++ unnamed u ∷ []))
-        (omega arith) (omega arith) (child_reads s b e d 1 x t depth i spans blank inner (stop (scan s e).word))
-        (λ u spans' like. elim (r.reads depth n close (found ++ unnamed u ∷ []) spans' ahead inner stop ends bar) [
-          | inl g ↦ inl (g.0, g.1, g.2, g.3 ∙ spots_more found xs name u x like)
-          | inr g ↦ inr g
-        ]))
+    (reach_then (λ u. bare u ≡ bare x) (Grown found ((name, Some x) ∷ xs)) s e j (height x) (spots_height xs) (spots_height ((name, Some x) ∷ xs)) depth (node depth d 1 (put s i spans))
+    (λ u. in_row_from (node depth) d close n (found ++ unnamed u ∷ []))
+    (omega arith) (omega arith) (child_reads s b e d 1 x t depth i spans blank inner (stop (scan s e).word))
+    (λ u spans' like. elim (r.reads depth n close (found ++ unnamed u ∷ []) spans' ahead inner stop ends bar) [
+      | inl g ↦ inl (g.0, g.1, g.2, g.3 ∙ spots_more found xs name u x like)
+      | inr g ↦ inr g
+    ]))
 
 row_ends : (s : List ℕ) (d : Category) (i depth n : ℕ) (close : Word) (found : List Spot) (spans : List Span) → (scan s i).word ≡ close → in_row_from (node depth) d close n found (put s i spans) ≡ Ok (found, put s i spans)
 unfolding in_row_from
@@ -539,3 +545,9 @@ mutual
       let t = tree_reads tree in
       let r = rows_read others in
       record { order = omega (arith, t.order, blank.order, r.order); reads = row_reads s d i b e j name x xs t blank r }
+
+-- a whole text that spells a tree
+pub whole_reads : (P : Said) (s : List ℕ) (x : Syntax) → Whole P s x → (depth : ℕ) → Reach (λ u. bare u ≡ bare x) s (length s) (height x) depth (node depth c.Program 1 (begin s))
+whole_reads P s x spells depth =
+    let t = tree_reads spells in
+    node_reads s 0 (length s) c.Program 1 x t depth 0 [] (program_stop 1 (scan s (length s)).word) (subst (λ z. Arrives z s 0 0) (sym t.belongs_there) refl)

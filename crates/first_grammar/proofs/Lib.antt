@@ -3,3 +3,4 @@ pub mod Forms
 pub mod Bares
 pub mod Reach
 pub mod Complete
+pub mod OneTree

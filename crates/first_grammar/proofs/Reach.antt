@@ -1,12 +1,10 @@
 -- What it is that a text is read up to an offset, unless its trees nest too deep.
-use Rattle.std.proofs.Common.{◌≡◌, ◌≤◌, ◌<◌, ◌+◌, ℕ, zero, suc, Bool, true, false, ◌&&◌, nat_le, ◌⊎◌, inl, inr, List, [], ◌∷◌, Option, Some, None, Ok, Err, refl, sym, ◌∙◌, ap, subst, arith, rules, length}
+use Rattle.std.proofs.Common.{◌≡◌, ◌≤◌, ◌<◌, ℕ, zero, suc, Bool, true, false, ◌&&◌, nat_le, ◌⊎◌, inl, inr, List, Option, Some, None, Ok, Err, refl, sym, ◌∙◌, ap, subst, arith, rules}
 use Rattle.std.specs.Prelude.{slice_range}
 use Rattle.std.proofs.lemmas.Bool.{and_from, and_left, and_right, le-leb, lt-leb}
 use denote.Enum.Bare.{same_true}
 use Rattle.tree_core.specs.declared.span.Span.{Span}
 use Rattle.tree_core.specs.Syntax.{Syntax}
-use Rattle.tree_core.specs.Bare.{bare}
-use Rattle.tree_core.specs.Height.{height}
 use Rattle.first_grammar.specs.contracts.table.Word.{the_type}
 use Rattle.first_grammar.specs.declared.table.Kind.{Kind}
 use Rattle.first_grammar.specs.declared.table.Word.{Word}
@@ -17,8 +15,8 @@ use Rattle.first_grammar.specs.declared.cursor.Token.{Token}
 use Rattle.first_grammar.specs.declared.error.ReadError.TheVariants.{Nesting}
 use Rattle.first_grammar.specs.Table.{same_word, level, belongs, left, led_by}
 use Rattle.first_grammar.specs.Words.{is_name_word, Scan}
-use Rattle.first_grammar.specs.Input.{Input, Outcome, Reader, and_then, scan, word, opening, next, sees, expect, named_if, name, any_name, pure}
-use Rattle.first_grammar.specs.Reading.{Read, with_scalar, takes, if_takes, choose, onward, part, climb, node}
+use Rattle.first_grammar.specs.Input.{Input, Outcome, Reader, and_then, word, next, sees, expect, named_if, name, any_name, pure}
+use Rattle.first_grammar.specs.Reading.{Read, with_scalar, if_takes, choose, part, climb, node}
 use Rattle.first_grammar.proofs.Tokens.{scan_is}
 use Rattle.first_grammar.proofs.Forms.{Stop}
 
@@ -33,8 +31,9 @@ pub reach_then : {A B : Type 0} (good : A → Type 0) (well : B → Type 0) (s :
     → Reach good s k g depth r → ((a : A) (spans : List Span) → good a → Reach well s j h depth (f a (put s k spans))) → Reach well s j m depth (and_then r f)
 reach_then {A} {B} good well s k j g h m depth r f le lh (inl e) on =
     subst (λ z. Reach well s j m depth (and_then z f)) (sym e.2) (elim (on e.0 e.1 e.3) [
-        inl d ↦ inl d
-      | inr d ↦ inr (d.0, d.1, omega arith) ])
+      | inl d ↦ inl d
+      | inr d ↦ inr (d.0, d.1, omega arith)
+    ])
 reach_then {A} {B} good well s k j g h m depth r f le lh (inr e) on = inr (e.0, subst (λ z. and_then z f ≡ Err (Nesting e.0)) (sym e.1) refl, omega arith)
 
 -- tokens
@@ -113,8 +112,11 @@ pub choose_some : (c : Category) (least : ℕ) (first : Kind) (word : Word) (kin
     → (left kind).1 ≤ level first → choose c least first word ≡ Some kind
 unfolding choose
 choose_some c least first word kind led b le fits up =
-    rw (led, and_from (belongs kind c && nat_le least (level kind) && belongs first (left kind).0) (nat_le (left kind).1 (level first))
-      (and_from (belongs kind c && nat_le least (level kind)) (belongs first (left kind).0) (and_from (belongs kind c) (nat_le least (level kind)) b (le-leb _ _ le)) fits) (le-leb _ _ up)) refl
+    rw (
+      led,
+      and_from (belongs kind c && nat_le least (level kind) && belongs first (left kind).0) (nat_le (left kind).1 (level first))
+          (and_from (belongs kind c && nat_le least (level kind)) (belongs first (left kind).0) (and_from (belongs kind c) (nat_le least (level kind)) b (le-leb _ _ le)) fits) (le-leb _ _ up),
+    ) refl
 
 pub climb_stop : (node : Category → ℕ → Reader Syntax) (c : Category) (least start n : ℕ) (x : Syntax) (kind : Kind) (i : Input) → choose c least kind (word i) ≡ None → climb node c least start n x kind i ≡ Ok (x, i)
 unfolding climb

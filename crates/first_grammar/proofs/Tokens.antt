@@ -1,12 +1,11 @@
 -- What stands in the text is what is scanned there.
-use Rattle.std.proofs.Common.{◌≡◌, ◌≤◌, ◌<◌, ◌+◌, ◌-◌, ℕ, zero, suc, Bool, true, false, cond, ◌||◌, ◌==◌, ◌⊎◌, inl, inr, List, length, refl, sym, ◌∙◌, ap, subst, arith}
-use Rattle.std.specs.Prelude.{IsTrue, nat_lt, slice_index, slice_range}
+use Rattle.std.proofs.Common.{◌≡◌, ◌≤◌, ◌<◌, ◌+◌, ◌-◌, ℕ, zero, suc, Bool, true, false, cond, ◌||◌, ◌==◌, ◌⊎◌, inl, inr, List, length, refl, subst, arith}
+use Rattle.std.specs.Prelude.{nat_lt, slice_index}
 use Rattle.std.proofs.lemmas.Bool.{eqb-true, lt-ltb, le-ltb}
 use Rattle.std.proofs.Math.Nat.{eq-or-lt_of_le}
 use Rattle.first_grammar.specs.declared.table.Word.{Word}
 use Rattle.first_grammar.specs.declared.table.Word.TheVariants as w
-use Rattle.first_grammar.specs.declared.cursor.Token.{Token}
-use Rattle.first_grammar.specs.Words.{is_blank, is_start, is_part, is_reserved, mark_of, run, blanks_end, name_end, Each, Blank, Stops, NameAt, WordAt, MarkAt, Stands, Scan}
+use Rattle.first_grammar.specs.Words.{is_blank, is_start, is_part, mark_of, run, blanks_end, name_end, Each, Blank, Stops, NameAt, WordAt, MarkAt, Stands, Scan}
 use Rattle.first_grammar.specs.Spells.{Begins}
 use Rattle.first_grammar.specs.Input.{token_at, scan}
 
