@@ -9,7 +9,7 @@ use Rattle.first_grammar.specs.Spells.{Said, Anything, Whole, Reads}
 use Rattle.first_grammar.specs.Input.{Input, Outcome, Gives, begin}
 use Rattle.first_grammar.specs.Reading.{program, max_nesting}
 use Rattle.first_grammar.specs.Whole.{Answers}
-use Rattle.first_grammar.proofs.Complete.{whole_reads}
+use Rattle.first_grammar.proofs.Complete.{whole_met}
 
 ok_tree : (a b : Syntax) (i j : Input) → let one : Outcome Syntax = Ok (a, i) in one ≡ Ok (b, j) → a ≡ b
 ok_tree a b i j e = let pair : ◌≡◌ {A = Syntax × Input} (a, i) (b, j) = cc in ap (λ (q : Syntax × Input). q.0) pair
@@ -18,8 +18,8 @@ ok_tree a b i j e = let pair : ◌≡◌ {A = Syntax × Input} (a, i) (b, j) = c
 pub one_tree : (P Q : Said) (s : List ℕ) (t u : Syntax) → Whole P s t → Whole Q s u → bare t ≡ bare u
 one_tree P Q s t u spells also =
     let depth : ℕ = height t + height u in
-    elim (whole_reads P s t spells depth) [
-      | inl a ↦ elim (whole_reads Q s u also depth) [
+    elim (whole_met P s t spells depth) [
+      | inl a ↦ elim (whole_met Q s u also depth) [
         | inl b ↦ let same : a.0 ≡ b.0 = ok_tree a.0 b.0 _ _ (sym a.2 ∙ b.2) in sym a.3 ∙ ap bare same ∙ b.3
         | inr b ↦ absurd (omega arith)
       ]
@@ -30,7 +30,7 @@ one_tree P Q s t u spells also =
 pub complete : (s : List ℕ) (t : Syntax) → Reads s t
     → ((u : Syntax) × (j : Input) × (program (begin s) ≡ Ok (u, j)) × (bare u ≡ bare t)) ⊎ ((at : ℕ) × (program (begin s) ≡ Err (Nesting at)) × (max_nesting < height t))
 unfolding program
-complete s t reads = elim (whole_reads Anything s t reads max_nesting) [
+complete s t reads = elim (whole_met Anything s t reads max_nesting) [
   | inl a ↦ inl (a.0, record { text = s; at = length s; spans = a.1 }, a.2, a.3)
   | inr a ↦ inr a
 ]
