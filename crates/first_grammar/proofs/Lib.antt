@@ -1,8 +1,10 @@
 pub mod Turns
+pub mod Highest
 pub mod Ahead
 pub mod Passed
 pub mod Weaker
 pub mod Sound
+pub mod Heights
 pub mod Tokens
 pub mod Forms
 pub mod Bares
