@@ -12,3 +12,5 @@ pub mod Reach
 pub mod Complete
 pub mod OneTree
 pub mod Answered
+pub mod Numberings
+pub mod Renumbered

@@ -6,4 +6,5 @@ pub mod Reading
 pub mod Growing
 pub mod Nests
 pub mod Parse
+pub mod Numbers
 pub mod Whole
