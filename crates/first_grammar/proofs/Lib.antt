@@ -13,4 +13,5 @@ pub mod Complete
 pub mod OneTree
 pub mod Answered
 pub mod Numberings
+pub mod Walked
 pub mod Renumbered

@@ -4,6 +4,7 @@ use Rattle.std.specs.Prelude.{ℕ, ◌+◌, List, [], ◌∷◌, ◌++◌, Optio
 use Rattle.tree_core.specs.declared.span.Span.{Span}
 use Rattle.tree_core.specs.declared.tree.PlaceName.{PlaceName}
 use Rattle.tree_core.specs.Syntax.{Syntax, node, Slots, no_slots, slot, Places, no_places, hole, place}
+use Rattle.tree_core.specs.View.{Spot}
 
 abbrev mutual
   -- how many nodes
@@ -63,3 +64,16 @@ abbrev mutual
   places_spans spans no_places = []
   places_spans spans (hole name more) = places_spans spans more
   places_spans spans (place name x more) = spans_of spans x ++ places_spans spans more
+
+-- what a place becomes under this name
+abbrev pub numbered_spot : Option PlaceName → ℕ → Spot → Spot
+numbered_spot name n (was, None) = (name, None)
+numbered_spot name n (was, Some x) = (name, Some (numbered n x))
+
+abbrev pub spot_spans : List Span → Spot → List Span
+spot_spans spans (was, None) = []
+spot_spans spans (was, Some x) = spans_of spans x
+
+abbrev pub spot_count : Spot → ℕ
+spot_count (was, None) = 0
+spot_count (was, Some x) = count x
