@@ -5,6 +5,7 @@
 //! the table of kinds.
 #![tactic(auto)]
 
+mod address;
 mod comment;
 mod depth;
 mod lists;
@@ -13,6 +14,7 @@ mod span;
 mod tree;
 mod units;
 
+pub use address::{Address, Steps32, at};
 pub use comment::{Comment, Comments};
 pub use depth::height;
 pub use lists::{Bytes, Name, Names, Numbers, Truths};
