@@ -7,6 +7,7 @@
 
 mod address;
 mod comment;
+mod copying;
 mod depth;
 mod lists;
 mod scalars;
@@ -16,6 +17,7 @@ mod units;
 
 pub use address::{Address, Steps32, at};
 pub use comment::{Comment, Comments};
+pub use copying::copy;
 pub use depth::height;
 pub use lists::{Bytes, Name, Names, Numbers, Truths};
 pub use scalars::{Scalar, Scalars};
