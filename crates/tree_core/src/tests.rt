@@ -3,29 +3,37 @@ use sqlite_items::Items;
 use std::alloc::{AllocError, Global};
 use std::test::Fail;
 
-// A node without slots; its scalar is a text of one code unit.
-fn leaf(alloc: Global, kind: u8) -> Result<Tree, AllocError> {
+// A place with a node whose only scalar is a text of one code unit.
+fn leaf(alloc: Global, kind: u8) -> Result<Place, AllocError> {
     let text = Units::new(vec![in alloc; 97]?);
     let scalars = Scalars::one(Scalar::Text(text));
-    Ok(Tree::new(alloc, kind, scalars, Items::new(alloc)))
+    Place::filled(alloc, Tree::new(alloc, kind, scalars, Items::new(alloc)))
+}
+
+// A place with a node of kind 3 over one of kind 4.
+fn branch(alloc: Global) -> Result<Place, AllocError> {
+    let mut slots = Items::new(alloc);
+    slots.push(Slot::single(leaf(alloc, 4)?))?;
+    Place::filled(alloc, Tree::new(alloc, 3, Scalars::new(), slots))
+}
+
+fn list(alloc: Global) -> Result<Slot, AllocError> {
+    let mut places = Items::new(alloc);
+    places.push(leaf(alloc, 2)?)?;
+    places.push(Place {
+        name: None,
+        node: None,
+    })?;
+    places.push(branch(alloc)?)?;
+    Ok(Slot::list(places))
 }
 
 // A node of kind 10: a place with a node of kind 1, and a list of three places, with a node of
 // kind 2, with none, and with a node of kind 3 over one of kind 4.
 fn sample(alloc: Global) -> Result<Tree, AllocError> {
-    let mut inner = Items::new(alloc);
-    inner.push(Slot::single(Place::filled(alloc, leaf(alloc, 4)?)?))?;
-    let mut places = Items::new(alloc);
-    places.push(Place::filled(alloc, leaf(alloc, 2)?)?)?;
-    places.push(Place {
-        name: None,
-        node: None,
-    })?;
-    let third = Tree::new(alloc, 3, Scalars::new(), inner);
-    places.push(Place::filled(alloc, third)?)?;
     let mut slots = Items::new(alloc);
-    slots.push(Slot::single(Place::filled(alloc, leaf(alloc, 1)?)?))?;
-    slots.push(Slot::list(places))?;
+    slots.push(Slot::single(leaf(alloc, 1)?))?;
+    slots.push(list(alloc)?)?;
     Ok(Tree::new(alloc, 10, Scalars::new(), slots))
 }
 
