@@ -4,9 +4,9 @@ ghost use Rattle.std.specs.Prelude.{◌≡◌, ◌≤◌, length, IfOk};
 ghost use Rattle.first_grammar.specs.Input as spec;
 ghost use Rattle.first_grammar.specs.Input.{Gives, same, scan};
 
-use crate::words::{is_reserved, is_start, mark_of};
 use crate::error::ReadError;
 use crate::table::{Word, same_word};
+use crate::words::{is_reserved, is_start, mark_of};
 use std::alloc::{AllocError, Global};
 use std::marker::Model;
 use tree_core::{Span, Spans, Units};
