@@ -6,9 +6,13 @@ use Rattle.tree_core.specs.declared.scalars.Scalar.TheVariants.{Text}
 use Rattle.tree_core.specs.Syntax.{Syntax, node, Slots, no_slots, slot, Places, no_places, hole, place}
 use Rattle.first_grammar.specs.Words.{is_start, is_part, is_reserved}
 
+abbrev pub is_text : List ℕ → Scalar → Bool
+is_text name (Text w) = bytes_eq w name
+is_text name _ = false
+
 -- the scalars are this name alone
 abbrev pub is_name : List ℕ → List Scalar → Bool
-is_name name (Text w ∷ []) = bytes_eq w name
+is_name name (x ∷ []) = is_text name x
 is_name name _ = false
 
 -- a node of this kind and these scalars is an identifier of this name

@@ -62,18 +62,26 @@ fn count_in_place(place: &Place, name: &[u8]) -> u64
 pub fn is_named(tree: &Tree, name: &[u8]) -> bool
     ensures { result ≡ spec.is_named name.now tree.now.kind tree.now.scalars }
 {
-    tree.kind == 1 && tree.scalars.len() == 1 && is_text(tree.scalars.get(0), name)
+    if tree.kind != 1 || tree.scalars.len() != 1 {
+        return false;
+    }
+    match tree.scalars.get(0) {
+        Some(scalar) => is_text(scalar, name),
+        None => false,
+    }
 }
 
-fn is_text(scalar: Option<&Scalar>, name: &[u8]) -> bool
+// Whether the scalar is this text.
+fn is_text(scalar: &Scalar, name: &[u8]) -> bool
+    ensures { result ≡ spec.is_text name.now scalar.now }
 {
     match scalar {
-        Some(Scalar::Text(units)) => same_text(units.get(), name),
+        Scalar::Text(units) => same_text(units.get(), name),
         _ => false,
     }
 }
 
-/// Whether the code units are, as numbers, the bytes.
+// Whether the code units are, as numbers, the bytes.
 fn same_text(units: &[u16], bytes: &[u8]) -> bool
     ensures { result ≡ bytes_eq units.now bytes.now }
 {

@@ -6,6 +6,7 @@ ghost use Rattle.first_rename.specs.Edits.{stretch, place_edits, Ordered, patche
 ghost use Rattle.first_rename.specs.Edits as spec;
 
 use crate::names::is_named;
+use sqlite_items::at;
 use std::alloc::{AllocError, Global};
 use tree_core::{Parsed, Place, Slot, Span, Tree};
 
@@ -63,9 +64,9 @@ fn add_stretch(found: &mut Vec<Span>, number: Option<u32>, spans: &[Span]) -> Re
     let Some(number) = number else {
         return Ok(());
     };
-    match spans.get(number as usize) {
+    match at(spans, number as usize) {
         None => Ok(()),
-        Some(span) => found.push(*span),
+        Some(span) => Ok(found.push(*span)?),
     }
 }
 
