@@ -67,7 +67,7 @@ name_word s w.Semicolon b e y h = absurd cc
 name_word s w.Other b e y h = absurd cc
 
 module _ (s : List ℕ) (spans : List Span) (old : List ℕ) where
-  one_name : (named : Bool) (from : Option ℕ) (i j b : ℕ) → b ≡ i → Named s b j → HasSpan spans from i j → Between s i j (cond named (stretch spans from) [] ++ [])
+  pub one_name : (named : Bool) (from : Option ℕ) (i j b : ℕ) → b ≡ i → Named s b j → HasSpan spans from i j → Between s i j (cond named (stretch spans from) [] ++ [])
   one_name false from i j b at n has = (omega (arith, at, n.order), n.within)
   one_name true from i j b at n has =
       subst (λ v. Between s i j (v ++ [])) (sym (stretch_is spans from i j has))
@@ -78,7 +78,7 @@ module _ (s : List ℕ) (spans : List Span) (old : List ℕ) where
     pub between : (i j : ℕ) (c : Category) (l : ℕ) (x : Syntax) → Spells (At spans) s i j c l x → j ≤ length s → Between s i j (edits old spans x)
     between _ _ _ _ _ (formed i j c l x kind bel high m) le = between_node kind i j x m le
 
-    between_node : (kind : Kind) (i j : ℕ) (x : Syntax) → Node (At spans) s kind i j x → j ≤ length s → Between s i j (edits old spans x)
+    pub between_node : (kind : Kind) (i j : ℕ) (x : Syntax) → Node (At spans) s kind i j x → j ≤ length s → Between s i j (edits old spans x)
     between_node _ _ _ _ (built k.Identifier i j _ _ from n (a_name _ _ b e _ _ _ scan (no_parts _)) has) le =
         one_name (is_named old 1 (Text (slice_range s b j) ∷ [])) from i j b (no_blank_before s i b scan.blank n) (name_word s w.Name b j refl scan.stands) has
     between_node _ _ _ _ (built k.PropertyName i j _ _ from n (free_name word _ _ b e _ _ _ y scan (no_parts _)) has) le =

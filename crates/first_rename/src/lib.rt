@@ -8,4 +8,4 @@ mod names;
 mod patch;
 
 pub use names::{count, is_plain_name};
-pub use patch::edits;
+pub use patch::{edits, rename};

@@ -2,7 +2,9 @@
 
 ghost use Rattle.std.specs.Prelude.{◌≡◌, ◌++◌, [], ◌∷◌, IfOk, OnOk};
 ghost use Rattle.tree_core.specs.View.{syntax, slot_view, place_view, places_of};
-ghost use Rattle.first_rename.specs.Edits.{stretch, place_edits, Ordered, patched};
+ghost use Rattle.first_grammar.specs.Spells.{At, Whole, Reads};
+ghost use Rattle.first_rename.specs.Names.{IsPlainName, renamed, count_of};
+ghost use Rattle.first_rename.specs.Edits.{stretch, place_edits, Ordered, patched, Keeps};
 ghost use Rattle.first_rename.specs.Edits as spec;
 
 use crate::names::is_named;
@@ -70,7 +72,27 @@ fn add_stretch(found: &mut Vec<Span>, number: Option<u32>, spans: &[Span]) -> Re
     }
 }
 
-/// The text with `new` in the place of each stretch.
+/// The source's text with the identifiers named `old` named `new`: what stands between them is
+/// taken from the source by its stretches, and nothing is found by comparing texts.
+pub fn rename(alloc: Global, source: &[u8], parsed: &Parsed, old: &[u8], new: &[u8]) -> Result<Vec<u8>, AllocError>
+    requires spelled { Whole (At parsed.now.spans) source.now (syntax parsed.now.tree) }
+    requires plain { IsPlainName new.now }
+
+    // The text reads as the renamed tree.
+    ensures reads { IfOk result (λ out. Reads out.items (renamed old.now new.now (syntax parsed.now.tree))) }
+
+    // Each node that the source spells as it is keeps its bytes, the largest ones with all between.
+    ensures keeps { IfOk result (λ out. Whole (Keeps source.now parsed.now.spans out.items) out.items (renamed old.now new.now (syntax parsed.now.tree))) }
+
+    ensures none_named { count_of old.now (syntax parsed.now.tree) ≡ 0 → IfOk result (λ out. out.items ≡ source.now) }
+    ensures same_name { old.now ≡ new.now → IfOk result (λ out. out.items ≡ source.now) }
+{
+    let stretches = edits(alloc, &parsed.tree, parsed.spans.as_slice(), old)?;
+    let out = patch(alloc, source, new, &stretches)?;
+    Ok(out)
+}
+
+// The text with `new` in the place of each stretch.
 fn patch(alloc: Global, source: &[u8], new: &[u8], stretches: &[Span]) -> Result<Vec<u8>, AllocError>
     requires { Ordered source.now 0 stretches.now }
     ensures { IfOk result (λ out. out.items ≡ patched source.now new.now 0 stretches.now) }
