@@ -1,11 +1,10 @@
 -- The patched text spells the renamed tree.
-use Rattle.std.proofs.Common.{◌≡◌, ◌≤◌, ◌+◌, ℕ, Bool, true, false, cond, List, [], ◌∷◌, ◌++◌, length, drop, map, Option, Some, None, refl, sym, ◌∙◌, ap, subst, arith, append_assoc, append-nil}
-use Rattle.std.specs.Prelude.{slice_index, slice_range}
+use Rattle.std.proofs.Common.{◌≡◌, ◌≤◌, ◌+◌, ℕ, Bool, true, false, cond, List, [], ◌∷◌, ◌++◌, length, drop, Option, Some, None, refl, sym, ◌∙◌, ap, subst, arith, append_assoc, append-nil}
+use Rattle.std.specs.Prelude.{slice_range}
 use Rattle.tree_core.specs.declared.scalars.Scalar.{Scalar}
 use Rattle.tree_core.specs.declared.scalars.Scalar.TheVariants.{Text}
 use Rattle.tree_core.specs.declared.span.Span.{Span}
-use Rattle.tree_core.specs.declared.tree.PlaceName.{PlaceName}
-use Rattle.tree_core.specs.Syntax.{Syntax, node, Notes, Slots, no_slots, slot, Places, no_places, hole, place}
+use Rattle.tree_core.specs.Syntax.{Syntax, node, Slots, no_slots, slot, Places, no_places, hole, place}
 use Rattle.tree_core.specs.View.{Spot, Row, slots_of, places_of}
 use Rattle.first_grammar.specs.declared.table.Kind.{Kind}
 use Rattle.first_grammar.specs.declared.table.Kind.TheVariants as k
@@ -15,12 +14,12 @@ use Rattle.first_grammar.specs.declared.table.Category.TheVariants as c
 use Rattle.first_grammar.specs.declared.table.Part.{Part}
 use Rattle.first_grammar.specs.declared.table.Part.TheVariants as part
 use Rattle.first_grammar.specs.Table.{number, fixed, is_whole, form}
-use Rattle.first_grammar.specs.Words.{is_part, Blank, Scan, Stops, WordAt}
-use Rattle.first_grammar.specs.Spells.{Said, node_of, bare_notes, one, all, Begins, Spells, Node, Fills, Listed, InRow, formed, built, no_parts, a_token, a_name, free_name, a_child, empty_list, a_list, a_body, last, more, row_end, row_next, Anything, HasSpan, At, Whole, Reads}
+use Rattle.first_grammar.specs.Words.{WordAt}
+use Rattle.first_grammar.specs.Spells.{Said, node_of, bare_notes, Begins, Spells, Node, Fills, Listed, InRow, formed, built, no_parts, a_token, a_name, free_name, a_child, empty_list, a_list, a_body, last, more, row_end, row_next, Anything, HasSpan, At, Whole, Reads}
 use Rattle.first_rename.specs.Names.{IsPlainName, is_named, renamed, renamed_slots, renamed_places}
 use Rattle.first_rename.specs.Edits.{Ordered, stretch, edits, slot_edits, place_edits, patched, Keeps}
 use Rattle.first_rename.proofs.Stretches.{Between, After, order, ordered, earlier, between_both, empty_range, Rest, past, front_range, Reached}
-use Rattle.first_rename.proofs.Tokens.{scan_order, no_blank, no_blank_before, at_end, Token, scan_moved, blank_moved, name_put, begins_moved}
+use Rattle.first_rename.proofs.Tokens.{scan_order, no_blank, no_blank_before, at_end, scan_moved, blank_moved, name_put, begins_moved}
 use Rattle.first_rename.proofs.Spans.{Named, said, one_stretch, stretch_is, name_word, one_name, between, between_node, between_fills, between_listed, between_row}
 use Rattle.first_rename.proofs.Same.{owns, same_tree, kept}
 

@@ -4,8 +4,7 @@ use Rattle.std.specs.Prelude.{slice_index, slice_range}
 use Rattle.tree_core.specs.declared.scalars.Scalar.{Scalar}
 use Rattle.tree_core.specs.declared.scalars.Scalar.TheVariants.{Text}
 use Rattle.tree_core.specs.declared.span.Span.{Span}
-use Rattle.tree_core.specs.declared.tree.PlaceName.{PlaceName}
-use Rattle.tree_core.specs.Syntax.{Syntax, node}
+use Rattle.tree_core.specs.Syntax.{Syntax}
 use Rattle.tree_core.specs.View.{Spot, Row, slots_of, places_of}
 use Rattle.first_grammar.specs.declared.table.Kind.{Kind}
 use Rattle.first_grammar.specs.declared.table.Kind.TheVariants as k
@@ -13,12 +12,12 @@ use Rattle.first_grammar.specs.declared.table.Word.{Word}
 use Rattle.first_grammar.specs.declared.table.Word.TheVariants as w
 use Rattle.first_grammar.specs.declared.table.Category.{Category}
 use Rattle.first_grammar.specs.declared.table.Part.{Part}
-use Rattle.first_grammar.specs.Words.{is_start, is_name_word, NameAt, Stands, Scan}
-use Rattle.first_grammar.specs.Spells.{Said, Spells, Node, Fills, Listed, InRow, formed, built, no_parts, a_token, a_name, free_name, a_child, empty_list, a_list, a_body, last, more, row_end, row_next, Begins, HasSpan, At}
+use Rattle.first_grammar.specs.Words.{is_start, is_name_word, NameAt, Stands}
+use Rattle.first_grammar.specs.Spells.{Said, Spells, Node, Fills, Listed, InRow, formed, built, no_parts, a_token, a_name, free_name, a_child, empty_list, a_list, a_body, last, more, row_end, row_next, HasSpan, At}
 use Rattle.first_rename.specs.Names.{is_named}
 use Rattle.first_rename.specs.Edits.{known, stretch, edits, slot_edits, place_edits}
 use Rattle.first_rename.proofs.Stretches.{Between, order, earlier, between_both}
-use Rattle.first_rename.proofs.Tokens.{stands_order, scan_order, no_blank_before}
+use Rattle.first_rename.proofs.Tokens.{scan_order, no_blank_before}
 
 node_said : (P : Said) (s : List ℕ) (kind : Kind) (i j : ℕ) (x : Syntax) → Node P s kind i j x → P x i j
 node_said P s _ _ _ _ (built kind i j scalars rows from n g said) = said
