@@ -4,3 +4,4 @@ pub mod Spells
 pub mod Input
 pub mod Reading
 pub mod Nests
+pub mod Whole

@@ -1,3 +1,5 @@
+pub mod Bare
+pub mod Height
 pub mod Held
 pub mod Syntax
 pub mod View

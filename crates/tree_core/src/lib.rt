@@ -6,6 +6,7 @@
 #![tactic(auto)]
 
 mod comment;
+mod depth;
 mod lists;
 mod scalars;
 mod span;
@@ -13,6 +14,7 @@ mod tree;
 mod units;
 
 pub use comment::{Comment, Comments};
+pub use depth::height;
 pub use lists::{Bytes, Name, Names, Numbers, Truths};
 pub use scalars::{Scalar, Scalars};
 pub use span::{CommentSpans, Parsed, Span, Spans};
