@@ -9,3 +9,4 @@ pub mod Bares
 pub mod Reach
 pub mod Complete
 pub mod OneTree
+pub mod Answered

@@ -128,12 +128,12 @@ unfolding numbered
 numbered_ok start n i j e =
     let span : Span = record { start = start; end = i.at } in
     let here : Numbered start (length i.spans) i (record { text = i.text; at = i.at; spans = i.spans ++ span ∷ [] }) =
-        record {
-          text_is = refl;
-          at_is = refl;
-          grows = (span ∷ [], refl);
-          has = λ z g. subst (λ v. slice_get v (length i.spans) ≡ Some span) (sym (g.1 ∙ append_assoc i.spans (span ∷ []) g.0)) (get_seam i.spans span g.0);
-        }
+    record {
+      text_is = refl;
+      at_is = refl;
+      grows = (span ∷ [], refl);
+      has = λ z g. subst (λ v. slice_get v (length i.spans) ≡ Some span) (sym (g.1 ∙ append_assoc i.spans (span ∷ []) g.0)) (get_seam i.spans span g.0);
+    }
     in
     let q = same_ok _ _ _ _ e in
     subst (λ m. Numbered start m i j) q.0 (subst (λ y. Numbered start (length i.spans) i y) q.1 here)
