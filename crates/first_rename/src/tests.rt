@@ -2,12 +2,19 @@
 
 use crate::{count, is_plain_name, rename};
 use first_grammar::parse;
+use std::test::Fail;
 
 /// A source, the old name, the new one, how many identifiers have the old one, and the new text.
 const RENAMES: [(&str, &str, &str, u64, &str); 6] = [
     ("foo(a, b);", "a", "b", 1, "foo(b, b);"),
     ("a.a = f(a);", "a", "b", 3, "b.b = f(b);"),
-    ("  ab .a=\n a ;a;", "a", "longer", 3, "  ab .longer=\n longer ;longer;"),
+    (
+        "  ab .a=\n a ;a;",
+        "a",
+        "longer",
+        3,
+        "  ab .longer=\n longer ;longer;",
+    ),
     ("f(a).if = f;", "f", "$", 2, "$(a).if = $;"),
     ("x = y;", "z", "w", 0, "x = y;"),
     (" \n", "a", "b", 0, " \n"),
