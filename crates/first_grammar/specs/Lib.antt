@@ -1,0 +1,6 @@
+pub mod Table
+pub mod Words
+pub mod Spells
+pub mod Input
+pub mod Reading
+pub mod Nests
