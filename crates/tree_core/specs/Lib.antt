@@ -1,3 +1,6 @@
+pub mod Address
+pub mod Bare
+pub mod Height
 pub mod Held
 pub mod Syntax
 pub mod View

@@ -5,14 +5,18 @@
 //! the table of kinds.
 #![tactic(auto)]
 
+mod address;
 mod comment;
+mod depth;
 mod lists;
 mod scalars;
 mod span;
 mod tree;
 mod units;
 
+pub use address::{Address, Steps32, at};
 pub use comment::{Comment, Comments};
+pub use depth::height;
 pub use lists::{Bytes, Name, Names, Numbers, Truths};
 pub use scalars::{Scalar, Scalars};
 pub use span::{CommentSpans, Parsed, Span, Spans};
