@@ -1,0 +1,4 @@
+pub mod Counting
+pub mod Statuses
+pub mod Texts
+pub mod Words
