@@ -6,6 +6,7 @@
 
 mod answer;
 mod counts;
+mod script;
 mod status;
 mod texts;
 mod words;
