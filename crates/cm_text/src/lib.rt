@@ -5,7 +5,12 @@
 #![tactic(auto)]
 
 mod fault;
+mod layout;
+mod line_end;
+mod lines;
 mod source;
 
 pub use fault::TextFault;
+pub use layout::Layout;
+pub use line_end::LineEnd;
 pub use source::{MAX_LENGTH, Source};
