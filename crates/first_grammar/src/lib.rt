@@ -6,6 +6,7 @@
 
 pub mod cursor;
 pub mod error;
+pub mod reader;
 pub mod table;
 pub mod words;
 
