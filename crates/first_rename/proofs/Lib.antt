@@ -1,0 +1,5 @@
+pub mod Left
+pub mod Stretches
+pub mod Tokens
+pub mod Spans
+pub mod Same
