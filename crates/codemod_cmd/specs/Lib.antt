@@ -1,5 +1,7 @@
 pub mod Counting
+pub mod FileAnswer
 pub mod Script
+pub mod Session
 pub mod Statuses
 pub mod Texts
 pub mod Words

@@ -6,10 +6,14 @@
 
 mod answer;
 mod counts;
+mod file;
+mod reading;
 mod script;
 mod status;
+mod stop;
 mod texts;
 mod words;
+mod writing;
 
 pub use answer::{FaultKind, FormKind, RowAnswer, RowError, SyntaxKind};
 pub use counts::Counts;
