@@ -1,5 +1,6 @@
 pub mod Counting
 pub mod FileAnswer
+pub mod Outcomes
 pub mod Script
 pub mod Session
 pub mod Statuses

@@ -7,7 +7,9 @@
 mod answer;
 mod counts;
 mod file;
+mod outcome;
 mod reading;
+mod running;
 mod script;
 mod status;
 mod stop;
@@ -17,5 +19,6 @@ mod writing;
 
 pub use answer::{FaultKind, FormKind, RowAnswer, RowError, SyntaxKind};
 pub use counts::Counts;
+pub use running::run;
 pub use status::Status;
 pub use texts::{row_text, script_text, summary};
