@@ -1,0 +1,4 @@
+pub mod Characters
+pub mod Pieces
+pub mod Punctuators
+pub mod Words
