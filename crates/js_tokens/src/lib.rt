@@ -4,12 +4,15 @@
 #![tactic(auto)]
 
 mod character;
+mod fault;
 mod piece;
 mod punctuator;
+mod text;
 mod token;
 mod word;
 
 pub use character::{char_len, continues_name, first_char, starts_name};
+pub use fault::CookFault;
 pub use piece::Piece;
 pub use punctuator::{PUNCTUATORS, Punctuator};
 pub use token::{Goal, TemplatePart, Token, TokenKind};

@@ -3,7 +3,7 @@
 
 ghost use Rattle.std.specs.Prelude.{◌≡◌, ◌<◌, ◌≤◌, ◌^◌, length, slice_index, IfSome};
 ghost use Rattle.js_tokens.specs.Characters.{char_len, first_char};
-ghost use Rattle.js_tokens.specs.Pieces.{character, line_feed, is_between, hex_digit, hex_escape, four_digits, braced_digits, unicode_escape, continuation_len, control, single_escape, letter_escape, is_octal, octal_escape, null_escape, string_escape, template_escape};
+ghost use Rattle.js_tokens.specs.Pieces.{IsWhole, character, line_feed, is_between, hex_digit, hex_escape, four_digits, braced_digits, unicode_escape, continuation_len, control, single_escape, letter_escape, is_octal, octal_escape, null_escape, string_escape, template_escape};
 
 use crate::character::{byte_at, char_len, first_char};
 
@@ -25,14 +25,16 @@ fn coded(code: u32, len: usize) -> Piece
 
 /// A character as it stands.
 pub fn character(bytes: &[u8]) -> Piece
-    ensures { result ≡ character bytes.now }
+    ensures value { result ≡ character bytes.now }
+    ensures whole { IsWhole result }
 {
     coded(first_char(bytes), char_len(byte_at(bytes, 0)))
 }
 
 /// CR LF or CR, read as LF.
 pub fn line_feed(bytes: &[u8]) -> Piece
-    ensures { result ≡ line_feed bytes.now }
+    ensures value { result ≡ line_feed bytes.now }
+    ensures whole { IsWhole result }
 {
     if byte_at(bytes, 1) == b'\n' {
         coded(0x0A, 2)
@@ -58,7 +60,7 @@ pub fn hex_digit(byte: u8) -> Option<u32>
 #[tactic(auto, unfolding(crate::specs::Pieces::hex_escape))]
 fn hex_escape(bytes: &[u8]) -> Option<Piece>
     ensures value { result ≡ hex_escape bytes.now }
-    ensures len { IfSome result (λ piece. 0 < piece.len) }
+    ensures whole { IfSome result IsWhole }
 {
     let high = hex_digit(byte_at(bytes, 2))?;
     let low = hex_digit(byte_at(bytes, 3))?;
@@ -69,6 +71,7 @@ fn hex_escape(bytes: &[u8]) -> Option<Piece>
 #[tactic(auto, unfolding(crate::specs::Pieces::four_digits))]
 fn four_digits(bytes: &[u8]) -> Option<Piece>
     ensures value { result ≡ four_digits bytes.now }
+    ensures whole { IfSome result IsWhole }
 {
     let first = hex_digit(byte_at(bytes, 2))?;
     let second = hex_digit(byte_at(bytes, 3))?;
@@ -80,7 +83,8 @@ fn four_digits(bytes: &[u8]) -> Option<Piece>
 // `\u{`, hex digits of a code point, and `}`.
 #[tactic(auto, unfolding(crate::specs::Pieces::braced_digits))]
 fn braced_digits(bytes: &[u8]) -> Option<Piece>
-    ensures { result ≡ braced_digits bytes.now }
+    ensures value { result ≡ braced_digits bytes.now }
+    ensures whole { IfSome result IsWhole }
 {
     let mut value = 0;
     for at in 3..bytes.len() {
@@ -102,7 +106,8 @@ fn braced_digits(bytes: &[u8]) -> Option<Piece>
 /// An escape with `\u`.
 #[tactic(auto, unfolding(crate::specs::Pieces::unicode_escape))]
 pub fn unicode_escape(bytes: &[u8]) -> Option<Piece>
-    ensures { result ≡ unicode_escape bytes.now }
+    ensures value { result ≡ unicode_escape bytes.now }
+    ensures whole { IfSome result IsWhole }
 {
     if byte_at(bytes, 1) != b'u' {
         return None;
@@ -151,7 +156,8 @@ fn control(byte: u8) -> Option<u32>
 #[tactic(auto, unfolding(crate::specs::Pieces::single_escape))]
 fn single_escape(bytes: &[u8]) -> Piece
     requires { 1 ≤ length bytes.now }
-    ensures { result ≡ single_escape bytes.now }
+    ensures value { result ≡ single_escape bytes.now }
+    ensures whole { IsWhole result }
 {
     let byte = byte_at(bytes, 1);
     let code = control(byte).unwrap_or(first_char(&bytes[1..]));
@@ -162,7 +168,8 @@ fn single_escape(bytes: &[u8]) -> Piece
 #[tactic(auto, unfolding(crate::specs::Pieces::letter_escape))]
 fn letter_escape(bytes: &[u8]) -> Option<Piece>
     requires { 1 ≤ length bytes.now }
-    ensures { result ≡ letter_escape bytes.now }
+    ensures value { result ≡ letter_escape bytes.now }
+    ensures whole { IfSome result IsWhole }
 {
     let byte = byte_at(bytes, 1);
     if byte == b'x' {
@@ -193,7 +200,8 @@ fn is_octal(byte: u8) -> bool
 // `\` and one to three octal digits, three only where the first is at most 3.
 #[tactic(auto, unfolding(crate::specs::Pieces::octal_escape))]
 fn octal_escape(bytes: &[u8]) -> Option<Piece>
-    ensures { result ≡ octal_escape bytes.now }
+    ensures value { result ≡ octal_escape bytes.now }
+    ensures whole { IfSome result IsWhole }
 {
     let first = byte_at(bytes, 1);
     if !is_octal(first) {
@@ -215,7 +223,8 @@ fn octal_escape(bytes: &[u8]) -> Option<Piece>
 // `\0` with no digit behind it.
 #[tactic(auto, unfolding(crate::specs::Pieces::null_escape))]
 fn null_escape(bytes: &[u8]) -> Option<Piece>
-    ensures { result ≡ null_escape bytes.now }
+    ensures value { result ≡ null_escape bytes.now }
+    ensures whole { IfSome result IsWhole }
 {
     if byte_at(bytes, 1) == b'0' && !is_digit(byte_at(bytes, 2)) {
         return Some(coded(0, 2));
@@ -226,7 +235,8 @@ fn null_escape(bytes: &[u8]) -> Option<Piece>
 /// An escape of a string, which may have octal digits.
 #[tactic(auto, unfolding(crate::specs::Pieces::string_escape))]
 pub fn string_escape(bytes: &[u8]) -> Option<Piece>
-    ensures { result ≡ string_escape bytes.now }
+    ensures value { result ≡ string_escape bytes.now }
+    ensures whole { IfSome result IsWhole }
 {
     if bytes.len() < 2 {
         return None;
@@ -240,7 +250,8 @@ pub fn string_escape(bytes: &[u8]) -> Option<Piece>
 /// An escape of a template, which may not.
 #[tactic(auto, unfolding(crate::specs::Pieces::template_escape))]
 pub fn template_escape(bytes: &[u8]) -> Option<Piece>
-    ensures { result ≡ template_escape bytes.now }
+    ensures value { result ≡ template_escape bytes.now }
+    ensures whole { IfSome result IsWhole }
 {
     if bytes.len() < 2 {
         return None;
