@@ -1,5 +1,5 @@
 -- Reading piece by piece from an offset.
-use Rattle.std.proofs.Common.{◌≡◌, ◌≤◌, ◌<◌, ◌+◌, ◌-◌, ℕ, zero, suc, min, List, [], ◌∷◌, ◌++◌, length, drop, Option, Some, None, Result, Ok, Err, refl, ap, sym, ◌∙◌, arith, append_assoc, subst, length-drop}
+use Rattle.std.proofs.Common.{◌≡◌, ◌≤◌, ◌<◌, ◌+◌, ◌-◌, ℕ, zero, suc, min, List, [], ◌∷◌, ◌++◌, length, drop, Some, None, Result, Ok, Err, refl, ap, sym, ◌∙◌, arith, append_assoc, subst, length-drop}
 use Rattle.std.proofs.lemmas.List.{append-nil, drop-drop, drop_min, drop_all}
 use Rattle.js_tokens.specs.Texts.{piece_units, plain_piece, cooked_piece, plain_units, cooked_units, before}
 use Rattle.js_tokens.specs.declared.piece.Piece.{Piece}
@@ -31,7 +31,7 @@ plain-first how [] some taken = absurd (omega arith)
 plain-first how (byte ∷ bytes) some taken =
     let len = (plain_piece how (byte ∷ bytes)).len in
     ap (λ rest. piece_units (plain_piece how (byte ∷ bytes)) ++ rest)
-      (plain-skip how (len - 1) bytes ∙ ap (plain_units how 0) (sym (drop-later len byte bytes taken)))
+    (plain-skip how (len - 1) bytes ∙ ap (plain_units how 0) (sym (drop-later len byte bytes taken)))
 
 pub plain_step : (how : Spelled) (raw units more : List ℕ) (at next : ℕ) (piece : Piece) →
     plain_units how 0 raw ≡ units ++ plain_units how 0 (drop at raw) → at < length raw →

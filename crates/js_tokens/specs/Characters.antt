@@ -1,6 +1,5 @@
 -- Characters in UTF-8, and which of them make names (ECMA-262, clause 12.7).
 use Rattle.std.specs.Prelude.{ℕ, ◌+◌, ◌*◌, ◌%◌, ◌==◌, ◌&&◌, ◌||◌, Bool, List, slice_index, nat_lt, if◌then◌else◌}
-use Rattle.std.specs.Char.{is_ascii_alphabetic, is_ascii_alphanumeric}
 use Rattle.unicode_ident.specs.Ident.{is_xid_start, is_xid_continue}
 
 -- the low six bits of the byte at the offset

@@ -1,5 +1,5 @@
 -- The code units that names, strings and templates spell.
-use Rattle.std.specs.Prelude.{ℕ, zero, suc, ◌+◌, ◌-◌, ◌==◌, Bool, List, [], ◌∷◌, ◌++◌, slice_index, Option, Some, None, unwrap_or, Result, Ok, Err, if◌then◌else◌}
+use Rattle.std.specs.Prelude.{ℕ, zero, suc, ◌+◌, ◌-◌, ◌==◌, Bool, List, [], ◌∷◌, ◌++◌, slice_index, Option, Some, unwrap_or, Result, Ok, Err, if◌then◌else◌}
 use Rattle.std.specs.Char.Escape.{encode_utf16}
 use Rattle.std.specs.Option.{option_map_or}
 use Rattle.js_tokens.specs.Pieces.{character, line_feed, unicode_escape, string_escape, template_escape}
@@ -45,9 +45,9 @@ cooked_units how at skip [] = Ok []
 cooked_units how at (suc skip) (byte ∷ bytes) = cooked_units how (at + 1) skip bytes
 cooked_units how at zero (byte ∷ bytes) =
     option_map_or
-      (λ piece. before (piece_units piece) (cooked_units how (at + 1) (piece.len - 1) bytes))
-      (cooked_piece how (byte ∷ bytes))
-      (Err at)
+    (λ piece. before (piece_units piece) (cooked_units how (at + 1) (piece.len - 1) bytes))
+    (cooked_piece how (byte ∷ bytes))
+    (Err at)
 
 -- the code units of a text as it stands, or of a template's raw text
 abbrev pub code_units : Bool → List ℕ → List ℕ

@@ -3,7 +3,8 @@
 //! Inside the repository a word or a punctuator is a variant; its number is for the surface alone.
 #![tactic(auto)]
 
-mod character;
+mod code_point;
+mod cook;
 mod fault;
 mod piece;
 mod punctuator;
@@ -11,9 +12,10 @@ mod text;
 mod token;
 mod word;
 
-pub use character::{char_len, continues_name, first_char, starts_name};
+pub use code_point::{byte_at, char_len, continues_name, first_char, starts_name};
+pub use cook::{cook_string, cook_template, is_reserved, name_of, units};
 pub use fault::CookFault;
-pub use piece::Piece;
+pub use piece::{Piece, character, hex_digit, string_escape, template_escape, unicode_escape};
 pub use punctuator::{PUNCTUATORS, Punctuator};
 pub use token::{Goal, TemplatePart, Token, TokenKind};
 pub use word::{WORDS, Word};

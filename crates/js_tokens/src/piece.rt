@@ -5,7 +5,7 @@ ghost use Rattle.std.specs.Prelude.{◌≡◌, ◌<◌, ◌≤◌, ◌^◌, leng
 ghost use Rattle.js_tokens.specs.Characters.{char_len, first_char};
 ghost use Rattle.js_tokens.specs.Pieces.{IsWhole, character, line_feed, is_between, hex_digit, hex_escape, four_digits, braced_digits, unicode_escape, continuation_len, control, single_escape, letter_escape, is_octal, octal_escape, null_escape, string_escape, template_escape};
 
-use crate::character::{byte_at, char_len, first_char};
+use crate::code_point::{byte_at, char_len, first_char};
 
 /// A code point, which may be a lone surrogate, or nothing; and how many bytes spell it.
 #[derive(Clone, Copy, Debug, PartialEq, Eq)]

@@ -1,27 +1,27 @@
-//! The code units that names, strings and templates spell.
+//! Reading texts piece by piece.
 
-ghost use Rattle.std.specs.Prelude.{◌≡◌, ℕ, ◌++◌, IfOk, IfSome, OnOk};
+ghost use Rattle.std.specs.Prelude.{◌≡◌, ℕ, ◌<◌, ◌++◌, length, IfOk, IfSome, OnOk};
 ghost use Rattle.std.specs.Char.Escape.{encode_utf16};
 ghost use Rattle.js_tokens.specs.Pieces.{IsWhole};
 ghost use Rattle.js_tokens.specs.Texts.{piece_units, plain_piece, cooked_piece, plain_units, cooked_units};
 
-use crate::character::byte_at;
+use crate::code_point::byte_at;
 use crate::fault::Stop;
 use crate::piece::{Piece, character, line_feed, string_escape, template_escape, unicode_escape};
 use std::alloc::{AllocError, Global};
 use tree_core::Units;
 
-// What a text is that has no escapes which may be wrong.
+/// What a text is that has no escapes which may be wrong.
 #[derive(Clone, Copy)]
-enum Spelled {
+pub enum Spelled {
     AsWritten,
     InTemplate,
     InName,
 }
 
-// Whose escapes a text has.
+/// Whose escapes a text has.
 #[derive(Clone, Copy)]
-enum Cooked {
+pub enum Cooked {
     OfString,
     OfTemplate,
 }
@@ -89,7 +89,8 @@ fn push_piece(units: &mut Vec<u16>, piece: Piece) -> Result<(), AllocError>
     Ok(())
 }
 
-fn plain_units(alloc: Global, how: Spelled, raw: &[u8]) -> Result<Units, AllocError>
+/// The code units of the text.
+pub fn plain_units(alloc: Global, how: Spelled, raw: &[u8]) -> Result<Units, AllocError>
     ensures { IfOk result (λ units. units ≡ plain_units how 0 raw.now) }
 {
     let mut units = Vec::new(alloc);
@@ -102,9 +103,11 @@ fn plain_units(alloc: Global, how: Spelled, raw: &[u8]) -> Result<Units, AllocEr
     Ok(Units::new(units))
 }
 
-fn cooked_units(alloc: Global, how: Cooked, raw: &[u8]) -> Result<Units, Stop>
+/// The code units of the text, or where the first escape stands that is not valid.
+pub fn cooked_units(alloc: Global, how: Cooked, raw: &[u8]) -> Result<Units, Stop>
     ensures value { IfOk result (λ units. cooked_units how 0 0 raw.now ≡ Ok units) }
     ensures bad_escape { (at : ℕ) → result ≡ Err (Stop.BadEscape at) → cooked_units how 0 0 raw.now ≡ Err at }
+    ensures within { (at : ℕ) → result ≡ Err (Stop.BadEscape at) → at < length raw.now }
 {
     let mut units = Vec::new(alloc);
     let mut at = 0;

@@ -1,6 +1,6 @@
-use Rattle.std.proofs.Common.{◌≡◌, ◌∙◌, sym, ap, drop, Ok, Err, arith, rules}
+use Rattle.std.proofs.Common.{◌∙◌, sym, ap, Ok, arith, rules}
 use Rattle.std.proofs.lemmas.List.{take_rest}
-use Rattle.js_tokens.specs.Texts.{cooked_piece, cooked_units}
+use Rattle.js_tokens.specs.Texts.{cooked_piece}
 use Rattle.js_tokens.proofs.TextLemmas.{cooked_step, cooked_stop, cooked_end}
 use Rattle.js_tokens.proofs.text.cooked_units.Goals as goal
 
@@ -13,9 +13,9 @@ returns-in_default-clause-bad_escape c = λ at same.
 pub loop-at-preserved : goal.loop-at-preserved
 loop-at-preserved c = record {
   so_far = cooked_step c.args.how c.args.raw.now c.loop-at.units.items _ c.loop-at.at _ c.in-Some.piece
-    c.loop-at.invariant.so_far (omega arith)
-    (sym (c.cooked_piece.ensures.value ∙ ap (cooked_piece c.args.how) (take_rest c.args.raw.now c.loop-at.at)) ∙ c.in-Some.is)
-    (search rules) (search rules) (search rules);
+      c.loop-at.invariant.so_far (omega arith)
+      (sym (c.cooked_piece.ensures.value ∙ ap (cooked_piece c.args.how) (take_rest c.args.raw.now c.loop-at.at)) ∙ c.in-Some.is)
+      (search rules) (search rules) (search rules);
   within = omega arith;
 }
 

@@ -7,9 +7,9 @@ use Rattle.js_tokens.proofs.text.plain_units.Goals as goal
 pub loop-at-preserved : goal.loop-at-preserved
 loop-at-preserved c = record {
   so_far = plain_step c.args.how c.args.raw.now c.loop-at.units.items _ c.loop-at.at _ c.plain_piece-piece.result
-    c.loop-at.invariant.so_far (omega arith)
-    (c.plain_piece-piece.ensures.value ∙ ap (plain_piece c.args.how) (take_rest c.args.raw.now c.loop-at.at))
-    (search rules) (search rules) (search rules);
+      c.loop-at.invariant.so_far (omega arith)
+      (c.plain_piece-piece.ensures.value ∙ ap (plain_piece c.args.how) (take_rest c.args.raw.now c.loop-at.at))
+      (search rules) (search rules) (search rules);
   within = omega arith;
 }
 
