@@ -22,14 +22,14 @@ unfolding run
 run_each test s zero i le = empty_stretch test s i (omega (arith, le))
 run_each test s (suc n) i le =
     by_test (Each test s i) (test (slice_index s i)) _ _
-        (λ passes.
-            let on = run_each test s n (i + 1) (omega (arith, le)) in
-            record {
-              order = omega (arith, on.order);
-              within = on.within;
-              bytes = λ k from to. elim (eq-or-lt_of_le from) [ inl here ↦ subst (λ z. IsTrue (test (slice_index s z))) here passes | inr past ↦ on.bytes k (omega (arith, past)) to ];
-            })
-        (λ fails. empty_stretch test s i (omega (arith, le)))
+    (λ passes.
+    let on = run_each test s n (i + 1) (omega (arith, le)) in
+    record {
+      order = omega (arith, on.order);
+      within = on.within;
+      bytes = λ k from to. elim (eq-or-lt_of_le from) [ inl here ↦ subst (λ z. IsTrue (test (slice_index s z))) here passes | inr past ↦ on.bytes k (omega (arith, past)) to ];
+    })
+    (λ fails. empty_stretch test s i (omega (arith, le)))
 
 pub run_stops : (test : ℕ → Bool) (s : List ℕ) (n i : ℕ) → i + n ≡ length s → Stops test s (run test s n i)
 unfolding run
@@ -86,15 +86,17 @@ mark_placed : (s : List ℕ) (b : ℕ) → b < length s → Placed s b (record {
 mark_placed s b lt =
     let P : Word → Type 0 = λ word. known word ≡ true → Stands s word b (b + 1) in
     let here : (c : ℕ) → (slice_index s b == c) ≡ true → true ≡ true → MarkAt c s b (b + 1) = λ c e _. mark_at s b c lt e in
-    let c = slice_index s b in
-    (refl, by_test P (c == 40) _ _ (here 40) (λ _. by_test P (c == 41) _ _ (here 41) (λ _. by_test P (c == 44) _ _ (here 44) (λ _. by_test P (c == 46) _ _ (here 46) (λ _.
-        by_test P (c == 59) _ _ (here 59) (λ _. by_test P (c == 61) _ _ (here 61) (λ _ other. absurd cc)))))))
+    let c = slice_index s b in (
+      refl,
+      by_test P (c == 40) _ _ (here 40) (λ _. by_test P (c == 41) _ _ (here 41) (λ _. by_test P (c == 44) _ _ (here 44) (λ _. by_test P (c == 46) _ _ (here 46) (λ _.
+          by_test P (c == 59) _ _ (here 59) (λ _. by_test P (c == 61) _ _ (here 61) (λ _ other. absurd cc)))))),
+    )
 
 token_placed : (s : List ℕ) (b : ℕ) → b ≤ length s → Placed s b (token_at s b)
 token_placed s b le =
     by_test (Placed s b) (nat_lt b (length s)) _ _
-        (λ lt. by_test (Placed s b) (is_start (slice_index s b)) _ _ (λ starts. name_placed s b _ (name_at s b (ltb-true _ _ lt) starts)) (λ _. mark_placed s b (ltb-true _ _ lt)))
-        (λ end. (refl, λ _. (omega (arith, le, ltb-false _ _ end), refl)))
+    (λ lt. by_test (Placed s b) (is_start (slice_index s b)) _ _ (λ starts. name_placed s b _ (name_at s b (ltb-true _ _ lt) starts)) (λ _. mark_placed s b (ltb-true _ _ lt)))
+    (λ end. (refl, λ _. (omega (arith, le, ltb-false _ _ end), refl)))
 
 -- the next token stands where it says
 pub ahead_stands : (s : List ℕ) (i : ℕ) → i ≤ length s → known (scan s i).word ≡ true → Scan s i (scan s i).word (scan s i).start (scan s i).end

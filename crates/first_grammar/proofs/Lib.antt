@@ -1,2 +1,12 @@
 pub mod Turns
 pub mod Ahead
+pub mod Passed
+pub mod Weaker
+pub mod Sound
+pub mod Tokens
+pub mod Forms
+pub mod Bares
+pub mod Reach
+pub mod Complete
+pub mod OneTree
+pub mod Answered

@@ -4,3 +4,5 @@ pub mod Spells
 pub mod Input
 pub mod Reading
 pub mod Nests
+pub mod Parse
+pub mod Whole

@@ -54,11 +54,7 @@ fn name_token(text: &[u8], start: u32, end: u32) -> Token
     ensures { result ≡ spec.name_token text.now start end }
 {
     let reserved = is_reserved(&text[start as usize..end as usize]);
-    let word = if reserved {
-        Word::Reserved
-    } else {
-        Word::Name
-    };
+    let word = if reserved { Word::Reserved } else { Word::Name };
     Token { word, start, end }
 }
 

@@ -6,8 +6,10 @@
 
 pub mod cursor;
 pub mod error;
+pub mod parser;
 pub mod reader;
 pub mod table;
 pub mod words;
 
 pub use error::ReadError;
+pub use parser::parse;

@@ -1,0 +1,43 @@
+//! Parses a whole text.
+
+ghost use Rattle.std.specs.Prelude.{◌≡◌, ◌≤◌, length, IfOk, IfErr};
+ghost use Rattle.tree_core.specs.Syntax.{Syntax};
+ghost use Rattle.tree_core.specs.View.{syntax};
+ghost use Rattle.first_grammar.specs.Parse as spec;
+ghost use Rattle.first_grammar.specs.Spells.{At, Whole, Reads};
+ghost use Rattle.first_grammar.specs.Whole.{Answers};
+
+use crate::cursor::Cursor;
+use crate::error::ReadError;
+use crate::reader::program;
+use sqlite_items::Items;
+use std::alloc::Global;
+use tree_core::{Parsed, Spans, Tree};
+
+/// The tree of the text, and the stretches of its nodes by their numbers, in the order in which
+/// the nodes end.
+fn read(alloc: Global, source: &[u8]) -> Result<(Tree, Spans), ReadError>
+    requires short { length source.now ≤ 2097152 }
+    ensures { spec.Is (spec.raw source.now) result }
+{
+    let mut cursor = Cursor::new(alloc, source);
+    let tree = program(alloc, &mut cursor)?;
+    Ok((tree, cursor.into_spans()))
+}
+
+/// The tree that the text spells, and where its nodes stand by their numbers. The text has at most
+/// 2,097,152 bytes.
+pub fn parse(alloc: Global, source: &[u8]) -> Result<Parsed, ReadError>
+    requires short { length source.now ≤ 2097152 }
+    ensures spelled { IfOk result (λ p. Whole (At p.spans) source.now (syntax p.tree)) }
+    ensures reads { IfOk result (λ p. Reads source.now (syntax p.tree)) }
+    ensures refused { IfErr result (λ e. spec.Refused source.now e) }
+    ensures alone { (t : Syntax) → Reads source.now t → Answers (λ p. syntax p.tree) result t }
+{
+    let (tree, spans) = read(alloc, source)?;
+    Ok(Parsed {
+        tree,
+        spans,
+        comments: Items::new(alloc),
+    })
+}
