@@ -3,3 +3,5 @@ pub mod Stretches
 pub mod Tokens
 pub mod Spans
 pub mod Same
+pub mod Renames
+pub mod Unchanged

@@ -6,8 +6,7 @@ use Rattle.std.proofs.lemmas.Slice.Eq.{bytes_eq-Decides}
 use Rattle.tree_core.specs.declared.scalars.Scalar.{Scalar}
 use Rattle.tree_core.specs.declared.scalars.Scalar.TheVariants.{Text}
 use Rattle.tree_core.specs.declared.span.Span.{Span}
-use Rattle.tree_core.specs.declared.tree.PlaceName.{PlaceName}
-use Rattle.tree_core.specs.Syntax.{Syntax, node, Notes, Slots, no_slots, slot, Places, no_places, hole, place}
+use Rattle.tree_core.specs.Syntax.{Syntax, node, Slots, no_slots, slot, Places, no_places, hole, place}
 use Rattle.tree_core.specs.View.{Spot, Row, slots_of, places_of}
 use Rattle.first_grammar.specs.declared.table.Kind.{Kind}
 use Rattle.first_grammar.specs.declared.table.Kind.TheVariants as k
@@ -16,7 +15,7 @@ use Rattle.first_grammar.specs.declared.table.Part.{Part}
 use Rattle.first_grammar.specs.Spells.{Spells, Node, Fills, Listed, InRow, formed, built, no_parts, a_token, a_name, free_name, a_child, empty_list, a_list, a_body, last, more, row_end, row_next, HasSpan, At}
 use Rattle.first_rename.specs.Names.{is_named, is_name, renamed, renamed_slots, renamed_places}
 use Rattle.first_rename.specs.Edits.{known, stretch, edits, slot_edits, place_edits, patched}
-use Rattle.first_rename.proofs.Stretches.{Between, After, earlier, between_both, order, split, range_split, empty_range, Rest, rest_length, past, front_range}
+use Rattle.first_rename.proofs.Stretches.{Between, After, order, split, range_split, Rest, rest_length, past, front_range}
 use Rattle.first_rename.proofs.Tokens.{no_blank_before}
 use Rattle.first_rename.proofs.Spans.{one_stretch}
 

@@ -4,8 +4,7 @@ use Rattle.std.specs.Prelude.{slice_index, slice_range}
 use Rattle.tree_core.specs.declared.scalars.Scalar.{Scalar}
 use Rattle.tree_core.specs.declared.scalars.Scalar.TheVariants.{Text}
 use Rattle.tree_core.specs.declared.span.Span.{Span}
-use Rattle.tree_core.specs.declared.tree.PlaceName.{PlaceName}
-use Rattle.tree_core.specs.Syntax.{Syntax, node}
+use Rattle.tree_core.specs.Syntax.{Syntax}
 use Rattle.tree_core.specs.View.{Spot, Row, slots_of, places_of}
 use Rattle.first_grammar.specs.declared.table.Kind.{Kind}
 use Rattle.first_grammar.specs.declared.table.Kind.TheVariants as k
@@ -13,12 +12,12 @@ use Rattle.first_grammar.specs.declared.table.Word.{Word}
 use Rattle.first_grammar.specs.declared.table.Word.TheVariants as w
 use Rattle.first_grammar.specs.declared.table.Category.{Category}
 use Rattle.first_grammar.specs.declared.table.Part.{Part}
-use Rattle.first_grammar.specs.Words.{is_start, is_name_word, NameAt, Stands, Scan}
-use Rattle.first_grammar.specs.Spells.{Said, Spells, Node, Fills, Listed, InRow, formed, built, no_parts, a_token, a_name, free_name, a_child, empty_list, a_list, a_body, last, more, row_end, row_next, Begins, HasSpan, At}
+use Rattle.first_grammar.specs.Words.{is_start, is_name_word, NameAt, Stands}
+use Rattle.first_grammar.specs.Spells.{Said, Spells, Node, Fills, Listed, InRow, formed, built, no_parts, a_token, a_name, free_name, a_child, empty_list, a_list, a_body, last, more, row_end, row_next, HasSpan, At}
 use Rattle.first_rename.specs.Names.{is_named}
 use Rattle.first_rename.specs.Edits.{known, stretch, edits, slot_edits, place_edits}
 use Rattle.first_rename.proofs.Stretches.{Between, order, earlier, between_both}
-use Rattle.first_rename.proofs.Tokens.{stands_order, scan_order, no_blank_before}
+use Rattle.first_rename.proofs.Tokens.{scan_order, no_blank_before}
 
 node_said : (P : Said) (s : List ℕ) (kind : Kind) (i j : ℕ) (x : Syntax) → Node P s kind i j x → P x i j
 node_said P s _ _ _ _ (built kind i j scalars rows from n g said) = said
@@ -67,7 +66,7 @@ name_word s w.Semicolon b e y h = absurd cc
 name_word s w.Other b e y h = absurd cc
 
 module _ (s : List ℕ) (spans : List Span) (old : List ℕ) where
-  one_name : (named : Bool) (from : Option ℕ) (i j b : ℕ) → b ≡ i → Named s b j → HasSpan spans from i j → Between s i j (cond named (stretch spans from) [] ++ [])
+  pub one_name : (named : Bool) (from : Option ℕ) (i j b : ℕ) → b ≡ i → Named s b j → HasSpan spans from i j → Between s i j (cond named (stretch spans from) [] ++ [])
   one_name false from i j b at n has = (omega (arith, at, n.order), n.within)
   one_name true from i j b at n has =
       subst (λ v. Between s i j (v ++ [])) (sym (stretch_is spans from i j has))
@@ -78,7 +77,7 @@ module _ (s : List ℕ) (spans : List Span) (old : List ℕ) where
     pub between : (i j : ℕ) (c : Category) (l : ℕ) (x : Syntax) → Spells (At spans) s i j c l x → j ≤ length s → Between s i j (edits old spans x)
     between _ _ _ _ _ (formed i j c l x kind bel high m) le = between_node kind i j x m le
 
-    between_node : (kind : Kind) (i j : ℕ) (x : Syntax) → Node (At spans) s kind i j x → j ≤ length s → Between s i j (edits old spans x)
+    pub between_node : (kind : Kind) (i j : ℕ) (x : Syntax) → Node (At spans) s kind i j x → j ≤ length s → Between s i j (edits old spans x)
     between_node _ _ _ _ (built k.Identifier i j _ _ from n (a_name _ _ b e _ _ _ scan (no_parts _)) has) le =
         one_name (is_named old 1 (Text (slice_range s b j) ∷ [])) from i j b (no_blank_before s i b scan.blank n) (name_word s w.Name b j refl scan.stands) has
     between_node _ _ _ _ (built k.PropertyName i j _ _ from n (free_name word _ _ b e _ _ _ y scan (no_parts _)) has) le =

@@ -1,5 +1,5 @@
 -- Tokens and blanks in the patched text.
-use Rattle.std.proofs.Common.{◌≡◌, ◌≤◌, ◌<◌, ◌+◌, ◌-◌, inl, inr, ℕ, zero, suc, Bool, true, false, ◌||◌, ◌⊎◌, List, [], ◌∷◌, ◌++◌, length, drop, refl, sym, ◌∙◌, ap, subst, arith, length-drop}
+use Rattle.std.proofs.Common.{◌≡◌, ◌≤◌, ◌<◌, ◌+◌, ◌-◌, inl, inr, ℕ, Bool, true, false, ◌||◌, ◌⊎◌, List, [], ◌∷◌, ◌++◌, length, drop, refl, sym, ◌∙◌, ap, subst, arith, length-drop}
 use Rattle.std.specs.Prelude.{IsTrue, slice_index, slice_range, ◌==◌}
 use Rattle.std.proofs.lemmas.Bool.{eqb-true}
 use Rattle.std.proofs.lemmas.List.{length-append}
@@ -184,8 +184,7 @@ module _ (s new out : List ℕ) (plain : IsPlainName new) where
         let two : Rest out p (new ++ patched s new e.end es) = subst (λ v. Rest out p (v ++ (new ++ patched s new e.end es))) (ap (λ x. slice_range s i x) (sym same) ∙ empty_range s i) r in
         let n = rest_length out p (new ++ patched s new e.end es) two in
         let m = length-append new (patched s new e.end es) in
-        let z : p + 0 ≡ p = omega arith in
-        (
+        let z : p + 0 ≡ p = omega arith in (
           omega (arith, n, m, plain.some),
           start_not_blank (slice_index out p)
               (subst (λ v. is_start (slice_index out v) ≡ true) z (subst (λ v. is_start v ≡ true) (sym (front_get out p new (patched s new e.end es) 0 two plain.some)) plain.first)),

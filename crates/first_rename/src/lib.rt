@@ -6,6 +6,8 @@
 
 mod names;
 mod patch;
+#[cfg(test)]
+mod tests;
 
 pub use names::{count, is_plain_name};
-pub use patch::edits;
+pub use patch::{edits, rename};
