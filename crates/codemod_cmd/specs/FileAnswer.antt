@@ -25,7 +25,6 @@ pub record IsSource (s : List ℕ) : Type 0 where
 -- the tree of a source, with the stretches of its nodes by number
 pub record IsTreeOf (s : List ℕ) (spans : List Span) (t : Tree) : Type 0 where
   pub spelled : Whole (At spans) s t
-  pub nesting : height t ≤ max_nesting
 
 -- the most items of a list in a script
 abbrev pub max_items : ℕ

@@ -10,9 +10,8 @@ ghost use Rattle.codemod_cmd.specs.FileAnswer.{FileAnswer, IsSource, IsTreeOf};
 use crate::answer::{FaultKind, RowAnswer, RowError, SyntaxKind};
 use crate::script::Renaming;
 use cm_text::{Source, TextFault};
-use first_grammar::ReadError;
-use first_rename::count;
-use first_stub::{parse, rename};
+use first_grammar::{ReadError, parse};
+use first_rename::{count, rename};
 use std::alloc::{AllocError, Global};
 use tree_core::Parsed;
 
