@@ -13,6 +13,8 @@ mod running;
 mod script;
 mod status;
 mod stop;
+#[cfg(test)]
+mod tests;
 mod texts;
 mod words;
 mod writing;

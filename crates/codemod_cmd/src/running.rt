@@ -61,12 +61,7 @@ fn run_words<S: Store, O: Sink>(
 }
 
 // How the words end.
-fn ended<S: Store, O: Sink>(
-    alloc: Global,
-    words: &[String],
-    store: &mut S,
-    out: &mut O,
-) -> Status
+fn ended<S: Store, O: Sink>(alloc: Global, words: &[String], store: &mut S, out: &mut O) -> Status
     ensures ends { Ends words.now (outside (S.contents store.old) (S.fault_count store.old) (O.taken_bytes out.old)) (outside (S.contents store.new) (S.fault_count store.new) (O.taken_bytes out.new)) result }
     ensures kept { S.contents store.new ≡ S.contents store.old }
     ensures fault { result ≡ Status.OutputFault → Rose (O.fault_count out.old) (O.fault_count out.new) }
@@ -79,12 +74,7 @@ fn ended<S: Store, O: Sink>(
 }
 
 /// Runs the command that the words are over the files of the store, and writes its rows.
-pub fn run<S: Store, O: Sink>(
-    alloc: Global,
-    words: &[String],
-    store: &mut S,
-    out: &mut O,
-) -> Status
+pub fn run<S: Store, O: Sink>(alloc: Global, words: &[String], store: &mut S, out: &mut O) -> Status
     ensures ends { Ends words.now (outside (S.contents store.old) (S.fault_count store.old) (O.taken_bytes out.old)) (outside (S.contents store.new) (S.fault_count store.new) (O.taken_bytes out.new)) result }
     ensures kept { S.contents store.new ≡ S.contents store.old }
     ensures usage { IsOther words.now → EndsBy Status.Usage result }

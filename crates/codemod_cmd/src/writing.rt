@@ -67,7 +67,12 @@ pub fn say_row<O: Sink>(alloc: Global, out: &mut O, name: &str, row: &Row) -> Re
 }
 
 /// Writes the line of a script that is not run.
-pub fn say_refused<O: Sink>(alloc: Global, out: &mut O, name: &str, error: RowError) -> Result<(), Stop>
+pub fn say_refused<O: Sink>(
+    alloc: Global,
+    out: &mut O,
+    name: &str,
+    error: RowError,
+) -> Result<(), Stop>
     ensures all { OnOk result (Appends (O.taken_bytes out.old) (O.taken_bytes out.new) (script_line name.now error)) }
     ensures front { OnErr result (AppendsFront (O.taken_bytes out.old) (O.taken_bytes out.new) (script_line name.now error)) }
     ensures later { O.fault_count out.old ≤ O.fault_count out.new }

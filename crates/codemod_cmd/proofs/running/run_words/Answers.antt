@@ -29,4 +29,4 @@ returns-clause-stops g c =
     let script = c.in-Some.command.script.now in
     let file = c.in-Some.command.file.now in
     let outcome = c.in_ok-outcome.outcome in
-    on_err_weaker c.tell.result (λ front. inr (told script file outcome, status_of outcome, writes_told c.args.words.now before after script file outcome c.in-Some.ensures c.in_ok-outcome.ensures.outcome, front)) c.tell.ensures.front
+    on_err_weaker {P = AppendsFront before.taken after.taken (told script file outcome)} c.tell.result (λ front. inr (told script file outcome, status_of outcome, writes_told c.args.words.now before after script file outcome c.in-Some.ensures c.in_ok-outcome.ensures.outcome, front)) c.tell.ensures.front

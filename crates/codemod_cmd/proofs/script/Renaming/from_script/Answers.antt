@@ -18,8 +18,8 @@ returns-in_err-after-2 c =
     let w = c.split_name.result.0.now in
     let q = c.split_name.result.1.now in
     rw c.from_residual-in_err-after-2.ensures (λ old new h.
-        let left = from_old s rest w q old new c.in_ok-after.ensures c.split_name.ensures.name c.split_name.ensures.whole h in
-        c.in_err-after-2.ensures _ left.1.2)
+    let left = from_old s rest w q old new c.in_ok-after.ensures c.split_name.ensures.name c.split_name.ensures.whole h in
+    c.in_err-after-2.ensures _ left.1.2)
 
 pub returns-in_err-end : goal.returns-in_err-end
 unfolding front middle back
@@ -32,8 +32,8 @@ returns-in_err-end c =
     let w' = c.split_name-2.result.0.now in
     let q' = c.split_name-2.result.1.now in
     rw c.from_residual-in_err-end.ensures (λ old new h.
-        let left = from_new s rest w q rest' w' q' old new c.in_ok-after.ensures c.split_name.ensures.name c.split_name.ensures.whole c.in_ok-after-2.ensures c.split_name-2.ensures.name c.split_name-2.ensures.whole h in
-        c.in_err-end.ensures _ left.2.2)
+    let left = from_new s rest w q rest' w' q' old new c.in_ok-after.ensures c.split_name.ensures.name c.split_name.ensures.whole c.in_ok-after-2.ensures c.split_name-2.ensures.name c.split_name-2.ensures.whole h in
+    c.in_err-end.ensures _ left.2.2)
 
 pub returns-then-is_lawful : goal.returns-then-is_lawful
 unfolding front middle back
@@ -60,7 +60,7 @@ returns-else-is_lawful c =
     let q' = c.split_name-2.result.1.now in
     let end = c.in_ok-end.end.now in
     λ old new h.
-        let left = from_new s rest w q rest' w' q' old new c.in_ok-after.ensures c.split_name.ensures.name c.split_name.ensures.whole c.in_ok-after-2.ensures c.split_name-2.ensures.name c.split_name-2.ensures.whole h in
-        let same = append_cancel_left back left.2.0 end (sym left.2.2 ∙ c.in_ok-end.ensures) in
-        let wrong = c.if-is_lawful.ensures.1 (subst IsPlainName (sym left.0) h.0, subst IsPlainName (sym left.1) h.1, subst IsEnd same left.2.1) in
-        cc
+    let left = from_new s rest w q rest' w' q' old new c.in_ok-after.ensures c.split_name.ensures.name c.split_name.ensures.whole c.in_ok-after-2.ensures c.split_name-2.ensures.name c.split_name-2.ensures.whole h in
+    let same = append_cancel_left back left.2.0 end (sym left.2.2 ∙ c.in_ok-end.ensures) in
+    let wrong = c.if-is_lawful.ensures.1 (subst IsPlainName (sym left.0) h.0, subst IsPlainName (sym left.1) h.1, subst IsEnd same left.2.1) in
+    cc
