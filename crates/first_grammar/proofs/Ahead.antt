@@ -1,5 +1,5 @@
 -- The token that stands next: where it stands, and that it is still the next from where it begins.
-use Rattle.std.proofs.Common.{◌≡◌, ◌≤◌, ◌<◌, ◌+◌, ◌-◌, ℕ, zero, suc, Bool, true, false, cond, ◌||◌, nat_lt, ◌==◌, ◌⊎◌, inl, inr, List, [], ◌∷◌, length, refl, sym, ◌∙◌, ap, subst, arith}
+use Rattle.std.proofs.Common.{◌≡◌, ◌≤◌, ◌<◌, ◌+◌, ◌-◌, ℕ, zero, suc, Bool, true, false, cond, nat_lt, ◌==◌, inl, inr, List, length, refl, sym, ◌∙◌, ap, subst, arith}
 use Rattle.std.specs.Prelude.{IsTrue, slice_index, slice_range}
 use Rattle.std.proofs.lemmas.Bool.{eqb-true, ltb-true, ltb-false}
 use Rattle.std.proofs.Math.Nat.{eq-or-lt_of_le}
@@ -7,7 +7,7 @@ use Rattle.first_grammar.specs.declared.cursor.Token.{Token}
 use Rattle.first_grammar.specs.declared.table.Word.{Word}
 use Rattle.first_grammar.specs.declared.table.Word.TheVariants as w
 use Rattle.first_grammar.specs.Words.{is_blank, is_start, is_part, is_reserved, mark_of, run, blanks_end, name_end, Each, Blank, MarkAt, Stops, NameAt, Stands, Scan}
-use Rattle.first_grammar.specs.Input.{name_token, begun_token, token_at, scan}
+use Rattle.first_grammar.specs.Input.{name_token, token_at, scan}
 
 -- what holds of both branches
 pub by_test : {A : Type 0} (P : A → Type 0) (b : Bool) (x y : A) → (b ≡ true → P x) → (b ≡ false → P y) → P (cond b x y)

@@ -1,5 +1,5 @@
 -- What the answer to a whole text tells.
-use Rattle.std.proofs.Common.{◌≡◌, ◌≢◌, ℕ, List, Result, Ok, Err, refl, sym, ◌∙◌, ap, subst}
+use Rattle.std.proofs.Common.{◌≡◌, ℕ, List, Result, Ok, Err, sym, ap, subst}
 use Rattle.std.specs.Prelude.{IsErr, IfErr}
 use Rattle.tree_core.specs.declared.span.Span.{Span}
 use Rattle.tree_core.specs.Syntax.{Syntax}
@@ -7,8 +7,7 @@ use Rattle.tree_core.specs.Bare.{bare}
 use Rattle.first_grammar.specs.declared.error.ReadError.{ReadError}
 use Rattle.first_grammar.specs.declared.error.ReadError.TheVariants.{NoMemory, Unexpected, Nesting}
 use Rattle.first_grammar.specs.Spells.{At, Whole, Reads}
-use Rattle.first_grammar.specs.Input.{Input, Outcome, begin}
-use Rattle.first_grammar.specs.Reading.{program}
+use Rattle.first_grammar.specs.Input.{Input, Outcome}
 use Rattle.first_grammar.specs.Parse.{with_spans, raw, Refused}
 use Rattle.first_grammar.specs.Whole.{Answers}
 use Rattle.first_grammar.proofs.Sound.{program_ok}

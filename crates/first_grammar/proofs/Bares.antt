@@ -1,9 +1,10 @@
 -- Rows without numbers and place names.
-use Rattle.std.proofs.Common.{◌≡◌, ◌<◌, ℕ, true, false, List, [], ◌∷◌, ◌++◌, map, Option, Some, None, refl, sym, ◌∙◌, ap, arith, append_assoc, append-nil}
+use Rattle.std.proofs.Common.{◌≡◌, ◌<◌, ◌+◌, ℕ, true, false, List, [], ◌∷◌, ◌++◌, map, Option, Some, None, refl, sym, ◌∙◌, ap, arith, append_assoc, append-nil}
 use Rattle.std.proofs.lemmas.List.{map-append}
 use Rattle.tree_core.specs.declared.scalars.Scalar.{Scalar}
 use Rattle.tree_core.specs.declared.tree.PlaceName.{PlaceName}
-use Rattle.tree_core.specs.Syntax.{Syntax, node, slot, no_places, hole, place}
+use Rattle.tree_core.specs.Syntax.{Syntax, node, Slots, no_slots, slot, Places, no_places, hole, place}
+use Rattle.std.specs.Prelude.{max}
 use Rattle.tree_core.specs.View.{Spot, Row, slots_of, places_of}
 use Rattle.tree_core.specs.Bare.{bare, bare_slots, bare_places}
 use Rattle.tree_core.specs.Height.{height, slots_height, places_height}
@@ -51,6 +52,22 @@ pub node_alike : (kind : Kind) (scalars other : List Scalar) (rows more : List R
 node_alike kind scalars other rows more from that e f =
     ap (λ z. node (number kind) (fixed kind ++ z) (bare_slots (slots_of rows)) bare_notes None) e
     ∙ ap (λ z. node (number kind) (fixed kind ++ other) z bare_notes None) (slots_bare rows ∙ ap slots_of f ∙ sym (slots_bare more))
+
+mutual
+  height_bare : (x : Syntax) → height (bare x) ≡ height x
+  height_bare (node kind scalars slots notes from) = ap (λ z. 1 + z) (slots_height_bare slots)
+
+  slots_height_bare : (slots : Slots) → slots_height (bare_slots slots) ≡ slots_height slots
+  slots_height_bare no_slots = refl
+  slots_height_bare (slot list places more) = ap (λ z. max z (slots_height (bare_slots more))) (places_height_bare places) ∙ ap (λ z. max (places_height places) z) (slots_height_bare more)
+
+  places_height_bare : (places : Places) → places_height (bare_places places) ≡ places_height places
+  places_height_bare no_places = refl
+  places_height_bare (hole name more) = places_height_bare more
+  places_height_bare (place name x more) = ap (λ z. max z (places_height (bare_places more))) (height_bare x) ∙ ap (λ z. max (height x) z) (places_height_bare more)
+
+pub height_alike : (x y : Syntax) → bare x ≡ bare y → height x ≡ height y
+height_alike x y e = sym (height_bare x) ∙ ap height e ∙ height_bare y
 
 pub some_height : (x : Syntax) → 0 < height x
 some_height (node kind scalars slots notes from) = omega arith

@@ -1,7 +1,7 @@
 -- The reader arrives where a spelled tree ends, with that tree up to its numbers and place names.
 use Rattle.std.proofs.Common.{◌≡◌, ◌≤◌, ◌<◌, ◌+◌, ◌-◌, ℕ, zero, suc, Bool, true, false, nat_le, ◌⊎◌, inl, inr, List, [], ◌∷◌, ◌++◌, Option, Some, None, Ok, Err, refl, sym, ◌∙◌, ap, subst, arith, length, append-nil}
 use Rattle.std.specs.Prelude.{IsTrue, nat_lt, if◌then◌else◌, slice_index, slice_range}
-use Rattle.std.proofs.lemmas.Bool.{and_from, le-leb, ltb-true, ltb-false}
+use Rattle.std.proofs.lemmas.Bool.{and_from, le-leb, leb-false, ltb-true, ltb-false}
 use Rattle.tree_core.specs.declared.scalars.Scalar.{Scalar}
 use Rattle.tree_core.specs.declared.scalars.Scalar.TheVariants as scalar
 use Rattle.tree_core.specs.declared.span.Span.{Span}
@@ -22,11 +22,11 @@ use Rattle.first_grammar.specs.declared.error.ReadError.TheVariants.{Nesting}
 use Rattle.first_grammar.specs.Table.{same_word, level, belongs, is_whole, left, infix_word, tail, form, led_by, begun_by}
 use Rattle.first_grammar.specs.Words.{is_name_word, is_blank, Blank, Scan}
 use Rattle.first_grammar.specs.Spells.{Said, Begins, Spells, formed, Node, built, Fills, no_parts, a_token, a_name, free_name, a_child, empty_list, a_list, a_body, Listed, last, more, InRow, row_end, row_next, node_of, one, all, Whole}
-use Rattle.first_grammar.specs.Input.{Input, Outcome, and_then, scan, word, opening, next, start_of, settled, sees, after, eat, pure, numbered, begin}
-use Rattle.first_grammar.specs.Reading.{Read, made, Kinded, with_scalar, with_row, unnamed, choose, listed_from, listed, in_row_from, in_row, part, parts, filled, begun, first, climb, climbed, whole, node}
+use Rattle.first_grammar.specs.Input.{Input, Outcome, and_then, scan, word, opening, next, start_of, settled, sees, eat, pure, numbered, begin}
+use Rattle.first_grammar.specs.Reading.{Read, made, Kinded, with_scalar, with_row, unnamed, shallow, choose, listed_from, listed, in_row_from, in_row, part, parts, filled, begun, first, climb, climbed, whole, node}
 use Rattle.first_grammar.proofs.Tokens.{scan_is, scan_after, scan_begins, is_end, stands_order}
 use Rattle.first_grammar.proofs.Forms.{read_in, is_program, may_open, Halts, Yields, Inner, MayFollow, MayEnd, FirstToken, moves, form_moves, led_parts, plain_parts, inner_kind, left_inner, left_level, leads_back, led_not_end, led_inner, name_not_end, belongs_where_read, left_where_read, form_opens, chooses, leads_none, program_halts, tail_may_end}
-use Rattle.first_grammar.proofs.Bares.{bare_spots, bare_rows, spots_height, rows_height, all_alike, one_alike, node_alike, some_height, Adds, adds_none, adds_scalar, adds_row, adds_through, spots_last, spots_more}
+use Rattle.first_grammar.proofs.Bares.{bare_spots, bare_rows, spots_height, rows_height, all_alike, one_alike, node_alike, height_alike, some_height, Adds, adds_none, adds_scalar, adds_row, adds_through, spots_last, spots_more}
 use Rattle.first_grammar.proofs.Reach.{put, Reached, reached_then, seen_word, unseen_word, sees_it, goes_past, part_token, part_name, part_any_name, chooses_none, chooses_kind, climb_halts}
 
 -- the reader comes from i to a tree that begins at b
@@ -37,7 +37,7 @@ Arrives false s i b = Blank s i b
 -- What a place of a least level makes of a tree that ends at e: it goes on from a tree like it.
 abbrev GoesOn : List ℕ → ℕ → ℕ → ℕ → Category → Syntax → Kind → Outcome Syntax → Type 0
 GoesOn s e depth least c x kind r =
-    ((n : ℕ) × (start : ℕ) × (u : Syntax) × (spans : List Span) × (length s ≤ e + n) × (bare u ≡ bare x) × (r ≡ climb (node depth) c least start n u kind (put s e spans)))
+    ((n : ℕ) × (start : ℕ) × (u : Syntax) × (spans : List Span) × (length s ≤ e + n) × (bare u ≡ bare x) × (r ≡ climb depth (node depth) c least start n u kind (put s e spans)))
     ⊎ ((at : ℕ) × (r ≡ Err (Nesting at)) × (depth + 1 < height x))
 
 -- how a tree that stands from b to e is read
@@ -50,7 +50,7 @@ record TreeRead (s : List ℕ) (b e : ℕ) (d : Category) (l : ℕ) (x : Syntax)
   starts : may_open d (scan s b).word ≡ true
   high : l ≤ level kind
   reads : (depth least i : ℕ) (spans : List Span) → least ≤ l → Yields (read_in d) l (scan s e).word → Arrives (is_whole kind) s i b
-      → GoesOn s e depth least (read_in d) x kind (whole (node depth) (read_in d) least (put s i spans))
+      → GoesOn s e depth least (read_in d) x kind (whole depth (node depth) (read_in d) least (put s i spans))
 
 record PartsMet (s : List ℕ) (qs : List Part) (i j : ℕ) (scalars : List Scalar) (rows : List Row) : Type 0 where
   reads : (depth : ℕ) (r : Read) (spans : List Span) → MayEnd qs (scan s j).word → Reached (Adds r scalars rows) s j (rows_height rows) depth (parts (node depth) qs r (put s i spans))
@@ -114,7 +114,7 @@ unfolding node
 node_met s b e d l x t zero i spans stop arrives = inr (opening (put s i spans), refl, some_height x)
 node_met s b e d l x t (suc depth) i spans stop arrives =
     elim (t.reads depth l i spans (omega arith) (halts_yields (read_in d) l (scan s e).word stop) arrives) [
-      | inl h ↦ inl (h.2, h.3, h.6 ∙ climb_halts (node depth) (read_in d) l h.1 h.0 h.2 t.kind (put s e h.3) (chooses_none (read_in d) l t.kind (scan s e).word stop), h.5)
+      | inl h ↦ inl (h.2, h.3, h.6 ∙ climb_halts depth (node depth) (read_in d) l h.1 h.0 h.2 t.kind (put s e h.3) (chooses_none (read_in d) l t.kind (scan s e).word stop), h.5)
       | inr h ↦ inr (h.0, h.1, omega arith)
     ]
 
@@ -197,14 +197,27 @@ one_more P s q qs i k j n scalars ss rows h le lh fills f reads = record {
 
 -- ---- from parts to trees
 
-filled_met : (s : List ℕ) (kind : Kind) (i j : ℕ) (scalars : List Scalar) (rows : List Row) (f : PartsMet s (tail kind) i j scalars rows) (x : Syntax) (depth start : ℕ) (r : Read) (spans : List Span)
-    → MayEnd (tail kind) (scan s j).word → ((new : Read) (from : ℕ) → Adds r scalars rows new → bare (made kind new from) ≡ bare x)
-    → Reached (λ u. bare u ≡ bare x) s j (rows_height rows) depth (filled (node depth) kind start r (put s i spans))
+shallow_met : (s : List ℕ) (depth h j : ℕ) (new : Read) (spans : List Span) → rows_height new.1 ≤ h → Reached (λ _. Unit {0}) s j h depth (shallow depth new (put s j spans))
+shallow_met s depth h j new spans low = go (nat_le (rows_height new.1) depth) refl
+  where
+    go : (v : Bool) → nat_le (rows_height new.1) depth ≡ v → Reached (λ _. Unit {0}) s j h depth (shallow depth new (put s j spans))
+    go true e = inl (tt, spans, rw e refl, tt)
+    go false e = inr (opening (put s j spans), rw e refl, omega (arith, leb-false _ _ e, low))
+
+-- a node no higher than h over the root, whose children are as high as h
+filled_met : (s : List ℕ) (kind : Kind) (i j : ℕ) (scalars : List Scalar) (rows : List Row) (f : PartsMet s (tail kind) i j scalars rows) (x : Syntax) (h depth start : ℕ) (r : Read) (spans : List Span)
+    → rows_height rows ≤ h → height x ≤ suc h → MayEnd (tail kind) (scan s j).word → ((new : Read) (from : ℕ) → Adds r scalars rows new → bare (made kind new from) ≡ bare x)
+    → Reached (λ u. bare u ≡ bare x) s j h depth (filled depth (node depth) kind start r (put s i spans))
 unfolding filled numbered
-filled_met s kind i j scalars rows f x depth start r spans ends like =
-    reached_then (Adds r scalars rows) (λ u. bare u ≡ bare x) s j j (rows_height rows) (rows_height rows) (rows_height rows) depth (parts (node depth) (tail kind) r (put s i spans)) (λ new. λ i. and_then (numbered start i) (λ from. pure (made kind new from)))
-    (omega arith) (omega arith) (f.reads depth r spans ends)
-    (λ new spans' a. inl (made kind new (length spans'), spans' ++ record { start = start; end = j } ∷ [], refl, like new (length spans') a))
+filled_met s kind i j scalars rows f x h depth start r spans below high ends like =
+    reached_then (Adds r scalars rows) (λ u. bare u ≡ bare x) s j j (rows_height rows) h h depth (parts (node depth) (tail kind) r (put s i spans))
+    (λ new. λ i. and_then (shallow depth new i) (λ _. λ i. and_then (numbered start i) (λ from. pure (made kind new from))))
+    below (omega arith) (f.reads depth r spans ends)
+    (λ new spans' a.
+    let same : height (made kind new 0) ≡ height x = height_alike (made kind new 0) x (like new 0 a) in
+    reached_then (λ _. Unit {0}) (λ u. bare u ≡ bare x) s j j h h h depth (shallow depth new (put s j spans')) (λ _. λ i. and_then (numbered start i) (λ from. pure (made kind new from)))
+    (omega arith) (omega arith) (shallow_met s depth h j new spans' (omega (arith, same, high)))
+    (λ _ later _. inl (made kind new (length later), later ++ record { start = start; end = j } ∷ [], refl, like new (length later) a)))
 
 arrives_word : (whole : Bool) (s : List ℕ) (i b : ℕ) → Arrives whole s i b → Begins whole s b → (scan s i).word ≡ (scan s b).word
 arrives_word true s i b is begins = ap (λ z. (scan s z).word) is
@@ -222,30 +235,30 @@ Like x kind u = (bare u.0 ≡ bare x) × (u.1 ≡ kind)
 
 begun_met : (s : List ℕ) (d : Category) (least : ℕ) (kind : Kind) (b e : ℕ) (scalars : List Scalar) (rows : List Row) (f : PartsMet s (tail kind) b e scalars rows) (from : Option ℕ) (depth i : ℕ) (spans : List Span)
     → belongs kind d ≡ true → least ≤ level kind → begun_by d (scan s b).word ≡ Some kind → Begins (is_whole kind) s b → MayEnd (tail kind) (scan s e).word → Arrives (is_whole kind) s i b
-    → Reached (Like (node_of kind scalars rows from) kind) s e (rows_height rows) depth (first (node depth) d least (put s i spans))
+    → Reached (Like (node_of kind scalars rows from) kind) s e (rows_height rows) depth (first depth (node depth) d least (put s i spans))
 unfolding first
 begun_met s d least kind b e scalars rows f from depth i spans here le pre begins ends arrives =
     let x : Syntax = node_of kind scalars rows from in
     let start : ℕ = start_of kind i (opening (put s i spans)) in
-    let read = filled_met s kind b e scalars rows f x depth start ([], []) spans ends (λ new from' a. node_alike kind new.0 scalars new.1 rows (Some from') from a.scalars_are a.rows_are) in
-    let pair : Reached (Like x kind) s e (rows_height rows) depth (and_then (filled (node depth) kind start ([], []) (put s b spans)) (λ u. pure (u, kind))) =
-    reached_then (λ u. bare u ≡ bare x) (Like x kind) s e e (rows_height rows) (rows_height rows) (rows_height rows) depth (filled (node depth) kind start ([], []) (put s b spans)) (λ u. pure (u, kind))
+    let read = filled_met s kind b e scalars rows f x (rows_height rows) depth start ([], []) spans (omega arith) (omega arith) ends (λ new from' a. node_alike kind new.0 scalars new.1 rows (Some from') from a.scalars_are a.rows_are) in
+    let pair : Reached (Like x kind) s e (rows_height rows) depth (and_then (filled depth (node depth) kind start ([], []) (put s b spans)) (λ u. pure (u, kind))) =
+    reached_then (λ u. bare u ≡ bare x) (Like x kind) s e e (rows_height rows) (rows_height rows) (rows_height rows) depth (filled depth (node depth) kind start ([], []) (put s b spans)) (λ u. pure (u, kind))
     (omega arith) (omega arith) read (λ u spans' like. inl ((u, kind), spans', refl, (like, refl))) in
-    let there : Reached (Like x kind) s e (rows_height rows) depth (and_then (filled (node depth) kind start ([], []) (settled kind (put s i spans))) (λ u. pure (u, kind))) =
-    subst (λ z. Reached (Like x kind) s e (rows_height rows) depth (and_then (filled (node depth) kind start ([], []) z) (λ u. pure (u, kind)))) (sym (arrives_settled s kind i b spans arrives begins)) pair in
-    let tested : Reached (Like x kind) s e (rows_height rows) depth (begun (node depth) (Some kind) d least (put s i spans)) =
+    let there : Reached (Like x kind) s e (rows_height rows) depth (and_then (filled depth (node depth) kind start ([], []) (settled kind (put s i spans))) (λ u. pure (u, kind))) =
+    subst (λ z. Reached (Like x kind) s e (rows_height rows) depth (and_then (filled depth (node depth) kind start ([], []) z) (λ u. pure (u, kind)))) (sym (arrives_settled s kind i b spans arrives begins)) pair in
+    let tested : Reached (Like x kind) s e (rows_height rows) depth (begun depth (node depth) (Some kind) d least (put s i spans)) =
     rw (and_from (belongs kind d) (nat_le least (level kind)) here (le-leb _ _ le)) there in
     let word_is : begun_by d (scan s i).word ≡ Some kind = ap (λ z. begun_by d z) (arrives_word (is_whole kind) s i b arrives begins) ∙ pre in
-    subst (λ z. Reached (Like x kind) s e (rows_height rows) depth (begun (node depth) z d least (put s i spans))) (sym word_is) tested
+    subst (λ z. Reached (Like x kind) s e (rows_height rows) depth (begun depth (node depth) z d least (put s i spans))) (sym word_is) tested
 
 -- from the first tree the climb goes on
-first_met : (s : List ℕ) (e h depth : ℕ) (d : Category) (least : ℕ) (x : Syntax) (kind : Kind) (i : Input) → h < height x → Reached (Like x kind) s e h depth (first (node depth) d least i)
-    → GoesOn s e depth least d x kind (whole (node depth) d least i)
+first_met : (s : List ℕ) (e h depth : ℕ) (d : Category) (least : ℕ) (x : Syntax) (kind : Kind) (i : Input) → h < height x → Reached (Like x kind) s e h depth (first depth (node depth) d least i)
+    → GoesOn s e depth least d x kind (whole depth (node depth) d least i)
 unfolding whole climbed
 first_met s e h depth d least x kind i low (inl g) =
     let start : ℕ = start_of (g.0).1 i.at (opening i) in
-    let on = λ (u : Kinded). climbed (node depth) d least (start_of u.1 i.at (opening i)) u in
-    subst (λ z. GoesOn s e depth least d x z (and_then (first (node depth) d least i) on)) g.3.1
+    let on = λ (u : Kinded). climbed depth (node depth) d least (start_of u.1 i.at (opening i)) u in
+    subst (λ z. GoesOn s e depth least d x z (and_then (first depth (node depth) d least i) on)) g.3.1
     (inl (
       length s - e,
       start,
@@ -253,10 +266,10 @@ first_met s e h depth d least x kind i low (inl g) =
       g.1,
       omega arith,
       g.3.0,
-      subst (λ z. and_then z on ≡ climb (node depth) d least start (length s - e) (g.0).0 (g.0).1 (put s e g.1)) (sym g.2) refl,
+      subst (λ z. and_then z on ≡ climb depth (node depth) d least start (length s - e) (g.0).0 (g.0).1 (put s e g.1)) (sym g.2) refl,
     ))
 first_met s e h depth d least x kind i low (inr g) =
-    let on = λ (u : Kinded). climbed (node depth) d least (start_of u.1 i.at (opening i)) u in
+    let on = λ (u : Kinded). climbed depth (node depth) d least (start_of u.1 i.at (opening i)) u in
     inr (g.0, subst (λ z. and_then z on ≡ Err (Nesting g.0)) (sym g.1) refl, omega arith)
 
 plain_met : (s : List ℕ) (d : Category) (l : ℕ) (kind : Kind) (b e : ℕ) (scalars : List Scalar) (rows : List Row) (from : Option ℕ) → belongs kind d ≡ true → l ≤ level kind → Begins (is_whole kind) s b → infix_word kind ≡ None
@@ -279,19 +292,19 @@ plain_met s d l kind b e scalars rows from here le begins none f =
 
 -- one turn of the climb, over the token between the first child and the rest
 climb_met : (s : List ℕ) (e b' e' j h depth : ℕ) (d : Category) (least start n : ℕ) (u x : Syntax) (was kind : Kind) (k : Word) (spans : List Span) → choose d least was (scan s e).word ≡ Some kind → Scan s e k b' e' → is_end k ≡ false
-    → length s ≤ e + n → e' ≤ j → h < height x → Reached (λ y. bare y ≡ bare x) s j h depth (filled (node depth) kind start ([], one None u ∷ []) (put s e' spans))
-    → GoesOn s j depth least d x kind (climb (node depth) d least start n u was (put s e spans))
+    → length s ≤ e + n → e' ≤ j → h < height x → Reached (λ y. bare y ≡ bare x) s j h depth (filled depth (node depth) kind start ([], one None u ∷ []) (put s e' spans))
+    → GoesOn s j depth least d x kind (climb depth (node depth) d least start n u was (put s e spans))
 unfolding climb
 climb_met s e b' e' j h depth d least start zero u x was kind k spans ch token some room le low got =
     let order = stands_order s k b' e' token.stands in
     absurd (omega (arith, order.within some, token.blank.order))
 climb_met s e b' e' j h depth d least start (suc n) u x was kind k spans ch token some room le low got =
     let order = stands_order s k b' e' token.stands in
-    let on = λ (y : Syntax). climb (node depth) d least start n y kind in
-    let all_of : GoesOn s j depth least d x kind (and_then (filled (node depth) kind start ([], one None u ∷ []) (next (put s e spans))) on) =
-    subst (λ z. GoesOn s j depth least d x kind (and_then (filled (node depth) kind start ([], one None u ∷ []) z) on)) (sym (goes_past s k e b' e' spans token))
+    let on = λ (y : Syntax). climb depth (node depth) d least start n y kind in
+    let all_of : GoesOn s j depth least d x kind (and_then (filled depth (node depth) kind start ([], one None u ∷ []) (next (put s e spans))) on) =
+    subst (λ z. GoesOn s j depth least d x kind (and_then (filled depth (node depth) kind start ([], one None u ∷ []) z) on)) (sym (goes_past s k e b' e' spans token))
     (elim got [
-      | inl g ↦ inl (n, start, g.0, g.1, omega (arith, order.moves some, token.blank.order), g.3, subst (λ z. and_then z on ≡ climb (node depth) d least start n g.0 kind (put s j g.1)) (sym g.2) refl)
+      | inl g ↦ inl (n, start, g.0, g.1, omega (arith, order.moves some, token.blank.order), g.3, subst (λ z. and_then z on ≡ climb depth (node depth) d least start n g.0 kind (put s j g.1)) (sym g.2) refl)
       | inr g ↦ inr (g.0, subst (λ z. and_then z on ≡ Err (Nesting g.0)) (sym g.1) refl, omega arith)
     ]) in
     rw ch all_of
@@ -332,16 +345,17 @@ led_from_child s d l kind k b b1 e1 b2 e2 e name y scalars rows from here le led
       let word_is : (scan s e1).word ≡ k = ap (λ (z : Token). z.word) (scan_is s e1 k b2 e2 token) in
       let come : Arrives (is_whole child.kind) s i b1 = subst (λ z. Arrives z s i b1) (sym (inner_kind child.kind (left kind).0 child.belongs_there (left_inner kind))) (blank_through s i b b1 blanks blank) in
       let read = child.reads depth least i spans (omega (arith, left_level kind k led)) (left_yields kind k (read_in (left kind).0) (scan s e1).word back word_is) come in
-      let moved : GoesOn s e1 depth least (read_in d) y child.kind (whole (node depth) (read_in d) least (put s i spans)) =
-      subst (λ z. GoesOn s e1 depth least z y child.kind (whole (node depth) z least (put s i spans))) (left_where_read kind d k led here) read in
+      let moved : GoesOn s e1 depth least (read_in d) y child.kind (whole depth (node depth) (read_in d) least (put s i spans)) =
+      subst (λ z. GoesOn s e1 depth least z y child.kind (whole depth (node depth) z least (put s i spans))) (left_where_read kind d k led here) read in
       let high = child.high in
       elim moved [
         | inl h ↦
             let led_there : led_by (scan s e1).word ≡ Some kind = ap led_by word_is ∙ back in
             let ch = chooses_kind (read_in d) least child.kind (scan s e1).word kind led_there (belongs_where_read kind d here) (omega arith) child.belongs_there high in
-            let got = filled_met s kind e2 e scalars rows remains x depth h.1 ([], one None h.2 ∷ []) h.3 (tail_may_end kind d l (scan s e).word here le safe)
+            let below : ℕ = rows_height (one name y ∷ rows) in
+            let got = filled_met s kind e2 e scalars rows remains x below depth h.1 ([], one None h.2 ∷ []) h.3 (omega arith) (omega arith) (tail_may_end kind d l (scan s e).word here le safe)
             (λ new from' a. node_alike kind new.0 scalars new.1 (one name y ∷ rows) (Some from') from a.scalars_are (a.rows_are ∙ ap (λ z. z ∷ bare_rows rows) (one_alike None name h.2 y h.5))) in
-            let on = climb_met s e1 b2 e2 e (rows_height rows) depth (read_in d) least h.1 h.0 h.2 x child.kind kind k h.3 ch token (led_not_end kind k led) h.4 past (omega arith) got in
+            let on = climb_met s e1 b2 e2 e below depth (read_in d) least h.1 h.0 h.2 x child.kind kind k h.3 ch token (led_not_end kind k led) h.4 past (omega arith) got in
             subst (λ z. GoesOn s e depth least (read_in d) x kind z) (sym h.6) on
         | inr h ↦ inr (h.0, h.1, omega arith)
       ];

@@ -1,19 +1,22 @@
 -- What a step tells that succeeded.
-use Rattle.std.proofs.Common.{◌≡◌, ◌≤◌, ◌<◌, ◌+◌, ℕ, Bool, true, false, cond, ◌||◌, ◌==◌, ◌⊎◌, inl, inr, List, [], ◌∷◌, ◌++◌, length, Some, Ok, Err, refl, sym, ◌∙◌, ap, subst, rules, arith, append_assoc, append-nil}
+use Rattle.std.proofs.Common.{◌≡◌, ◌≤◌, ◌<◌, ℕ, nat_le, Bool, true, false, cond, ◌||◌, ◌==◌, ◌⊎◌, inl, inr, List, [], ◌∷◌, ◌++◌, length, Some, Ok, Err, refl, sym, ◌∙◌, ap, subst, rules, arith, append_assoc, append-nil}
 use Rattle.std.specs.Prelude.{slice_index, slice_get, slice_range}
-use Rattle.std.proofs.lemmas.Bool.{eqb-true}
+use Rattle.std.proofs.lemmas.Bool.{eqb-true, leb-true}
 use Rattle.std.proofs.lemmas.Option.{slice_get-get_or}
 use Rattle.std.proofs.Math.Seq.{get_or-append_seam}
 use Rattle.std.proofs.lemmas.List.{length-append}
 use denote.Enum.Bare.{same_true}
 use Rattle.tree_core.specs.declared.span.Span.{Span}
+use Rattle.tree_core.specs.Height.{slots_height}
+use Rattle.tree_core.specs.View.{slots_of}
 use Rattle.first_grammar.specs.contracts.table.Word.{the_type}
 use Rattle.first_grammar.specs.declared.table.Word.{Word}
 use Rattle.first_grammar.specs.declared.table.Word.TheVariants as w
 use Rattle.first_grammar.specs.Table.{same_word}
 use Rattle.first_grammar.specs.Words.{is_blank, is_start, is_name_word, MarkAt, NameAt, Stands, Scan}
 use Rattle.first_grammar.specs.Spells.{HasSpan}
-use Rattle.first_grammar.specs.Input.{Input, Outcome, Reader, and_then, scan, word, opening, next, expect, named_if, name, any_name, numbered, sees, after}
+use Rattle.first_grammar.specs.Input.{Input, Outcome, Reader, and_then, pure, too_deep, word, opening, next, expect, named_if, name, any_name, numbered, sees, after}
+use Rattle.first_grammar.specs.Reading.{Read, shallow}
 use Rattle.first_grammar.proofs.Ahead.{known, ahead_stands}
 
 pub bound : {A B : Type 0} (r : Outcome A) (f : A → Reader B) (y : B × Input) → and_then r f ≡ Ok y → (a : A) × (k : Input) × (r ≡ Ok (a, k)) × (f a k ≡ Ok y)
@@ -34,6 +37,9 @@ branch_at false x y i z e = inr (refl, e)
 pub word_is : (a b : Word) → same_word a b ≡ true → a ≡ b
 unfolding same_word
 word_is a b e = same_true the_type (search rules) a b e
+
+pub shallow_ok : (depth : ℕ) (r : Read) (i j : Input) (u : Unit {0}) → shallow depth r i ≡ Ok (u, j) → (slots_height (slots_of r.1) ≤ depth) × (i ≡ j)
+shallow_ok depth r i j u e = elim (branch_at (nat_le (slots_height (slots_of r.1)) depth) (pure tt) too_deep i _ e) [ inl h ↦ (leb-true _ _ h.0, (same_ok _ _ _ _ h.1).1) | inr h ↦ absurd cc ]
 
 -- spans are only added, behind those that are there
 abbrev pub Grows : List Span → List Span → Type 0

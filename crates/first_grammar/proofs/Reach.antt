@@ -118,7 +118,7 @@ chooses_kind c least first word kind led b le fits up =
           (and_from (belongs kind c && nat_le least (level kind)) (belongs first (left kind).0) (and_from (belongs kind c) (nat_le least (level kind)) b (le-leb _ _ le)) fits) (le-leb _ _ up),
     ) refl
 
-pub climb_halts : (node : Category → ℕ → Reader Syntax) (c : Category) (least start n : ℕ) (x : Syntax) (kind : Kind) (i : Input) → choose c least kind (word i) ≡ None → climb node c least start n x kind i ≡ Ok (x, i)
+pub climb_halts : (depth : ℕ) (node : Category → ℕ → Reader Syntax) (c : Category) (least start n : ℕ) (x : Syntax) (kind : Kind) (i : Input) → choose c least kind (word i) ≡ None → climb depth node c least start n x kind i ≡ Ok (x, i)
 unfolding climb
-climb_halts node c least start zero x kind i e = refl
-climb_halts node c least start (suc n) x kind i e = rw e refl
+climb_halts depth node c least start zero x kind i e = refl
+climb_halts depth node c least start (suc n) x kind i e = rw e refl

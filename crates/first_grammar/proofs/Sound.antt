@@ -18,10 +18,10 @@ use Rattle.first_grammar.specs.declared.table.Part.TheVariants as p
 use Rattle.first_grammar.specs.Table.{led_by, infix_word, level, belongs, is_whole, left, tail, form, led, begun_by, begins_expression, begins_statement, begins_property}
 use Rattle.first_grammar.specs.Words.{is_blank, is_name_word, Blank}
 use Rattle.first_grammar.specs.Spells.{Said, Spells, Node, Fills, Listed, InRow, formed, built, no_parts, a_token, a_name, free_name, a_child, empty_list, a_list, a_body, last, more, row_end, row_next, one, all, Begins, At, HasSpan, Whole}
-use Rattle.first_grammar.specs.Input.{Input, Outcome, Reader, word, opening, turns, next, expect, name, any_name, numbered, sees, begin, start_of, settled}
-use Rattle.first_grammar.specs.Reading.{Read, Kinded, unnamed, listed_from, listed, in_row_from, in_row, part, parts, filled, begun, first, takes, if_takes, choose, onward, climb, climbed, whole, node, program, max_nesting, with_row, made}
+use Rattle.first_grammar.specs.Input.{Input, Outcome, Reader, and_then, pure, word, opening, turns, next, expect, name, any_name, numbered, sees, begin, start_of, settled}
+use Rattle.first_grammar.specs.Reading.{Read, Kinded, unnamed, shallow, listed_from, listed, in_row_from, in_row, part, parts, filled, begun, first, takes, if_takes, choose, onward, climb, climbed, whole, node, program, max_nesting, with_row, made}
 use Rattle.first_grammar.proofs.Ahead.{known, empty_stretch}
-use Rattle.first_grammar.proofs.Passed.{bound, same_ok, branch, branch_at, Grows, unchanged, grows_on, Inside, Move, stay, move_on, passed, passed_as, seen, after_seen, after_unseen, expect_ok, name_ok, any_name_ok, numbered_ok, name_begins, name_stands, name_known}
+use Rattle.first_grammar.proofs.Passed.{bound, same_ok, shallow_ok, branch, branch_at, Grows, unchanged, grows_on, Inside, Move, stay, move_on, passed, seen, after_seen, after_unseen, expect_ok, name_ok, any_name_ok, numbered_ok, name_begins, name_stands, name_known}
 
 -- what holds after the way from i to j, also when more spans were added
 pub record After (s : List ℕ) (i j : Input) (T : List Span → Type 0) : Type 0 where
@@ -146,7 +146,7 @@ choose_ok c least first word kind e =
     let d = and_parts _ _ b.0 in
     record { leads = h.0; there = d.0; high = leb-true _ _ d.1; first_there = b.1; first_high = leb-true _ _ a.1 }
 
-onward_ok : {A : Type 0} (stop : Outcome A) (o : Option Kind) (go : Kind → Outcome A) (z : Outcome A) → onward stop o go ≡ z → (stop ≡ z) ⊎ ((kind : Kind) × (o ≡ Some kind) × (go kind ≡ z))
+pub onward_ok : {A : Type 0} (stop : Outcome A) (o : Option Kind) (go : Kind → Outcome A) (z : Outcome A) → onward stop o go ≡ z → (stop ≡ z) ⊎ ((kind : Kind) × (o ≡ Some kind) × (go kind ≡ z))
 onward_ok stop None go z e = inl e
 onward_ok stop (Some kind) go z e = inr (kind, refl, e)
 
@@ -180,7 +180,7 @@ node_built s z kind b e r n scalars rows x es er ex begins fills has =
     (subst (λ v. Node (At z) s kind b e (made kind (v, r.1) n)) (sym es)
     (subst (λ v. Node (At z) s kind b e (made kind (scalars, v) n)) (sym er) (built kind b e scalars rows (Some n) begins fills has)))
 
-module _ (s : List ℕ) (node : Category → ℕ → Reader Syntax) (sound : IsSound s node) where
+module _ (s : List ℕ) (depth : ℕ) (node : Category → ℕ → Reader Syntax) (sound : IsSound s node) where
   -- trees that are read behind those that were found
   record Trees (i j : Input) (found xs : List Spot) (T : List Span → ℕ → ℕ → List Spot → Type 0) : Type 0 where
     new : List Spot
@@ -369,11 +369,13 @@ module _ (s : List ℕ) (node : Category → ℕ → Reader Syntax) (sound : IsS
     adds : Adds s i j (λ z. Fills (At z) s (tail kind) i.at j.at) r new
     has : (z : List Span) → Grows j.spans z → HasSpan z (Some number) start j.at
 
-  filled_ok : (kind : Kind) (start : ℕ) (r : Read) (x : Syntax) (i j : Input) → Inside s i → filled node kind start r i ≡ Ok (x, j) → Filled kind start i j r x
+  filled_ok : (kind : Kind) (start : ℕ) (r : Read) (x : Syntax) (i j : Input) → Inside s i → filled depth node kind start r i ≡ Ok (x, j) → Filled kind start i j r x
   unfolding filled
   filled_ok kind start r x i j h e =
       let a = bound (parts node (tail kind) r i) _ _ e in
-      let b = bound (numbered start a.1) _ _ a.3 in
+      let low = bound (shallow depth a.0 a.1) _ _ a.3 in
+      let here = shallow_ok depth a.0 a.1 low.1 low.0 low.2 in
+      let b = bound (numbered start a.1) _ _ (subst (λ y. and_then (numbered start y) (λ from. pure (made kind a.0 from)) ≡ Ok (x, j)) (sym here.1) low.3) in
       let end = same_ok _ _ _ _ b.3 in
       let t = parts_ok (tail kind) r a.0 i a.1 (tail_known kind) h a.2 in
       let n = numbered_ok start b.0 a.1 b.1 b.2 in
@@ -410,7 +412,7 @@ module _ (s : List ℕ) (node : Category → ℕ → Reader Syntax) (sound : IsS
       subst (λ v. SpellsAfter c least b i0 v y) end.1
       (subst (λ v. SpellsAfter c least b i0 i v) end.0 (record { move = m.move; holds = λ z gr. formed b i.at c least x kind there high (m.holds z gr) }))
 
-  climb_ok : (c : Category) (least b n : ℕ) (x : Syntax) (kind : Kind) (y : Syntax) (i0 i j : Input) → climb node c least b n x kind i ≡ Ok (y, j) → belongs kind c ≡ true → least ≤ level kind
+  climb_ok : (c : Category) (least b n : ℕ) (x : Syntax) (kind : Kind) (y : Syntax) (i0 i j : Input) → climb depth node c least b n x kind i ≡ Ok (y, j) → belongs kind c ≡ true → least ≤ level kind
       → NodeAfter kind b i0 i x → SpellsAfter c least b i0 j y
   unfolding climb
   climb_ok c least b zero x kind y i0 i j e there high m = climb_ends c least b x kind y i0 i j e there high m
@@ -422,7 +424,7 @@ module _ (s : List ℕ) (node : Category → ℕ → Reader Syntax) (sound : IsS
             let f = choose_ok c least kind (word i) longer g.1 in
             let led = led_infix (word i) longer f.leads in
             let t = passed s i m.move.inside led.is_known in
-            let a = bound (filled node longer b ([], one None x ∷ []) (next i)) _ _ g.2 in
+            let a = bound (filled depth node longer b ([], one None x ∷ []) (next i)) _ _ g.2 in
             let r = filled_ok longer b ([], one None x ∷ []) a.0 (next i) a.1 t.move.inside a.2 in
             let begins = subst (λ v. Begins v s b) (no_whole_left longer kind f.first_there) (node_begins (At i.spans) s kind b i.at x (m.holds i.spans (unchanged i.spans))) in
             let rest = move_on s i (next i) a.1 t.move r.adds.after.move in
@@ -452,13 +454,13 @@ module _ (s : List ℕ) (node : Category → ℕ → Reader Syntax) (sound : IsS
     after : NodeAfter x.1 (start_of x.1 i.at (opening i)) i j x.0
 
   first_ok : (o : Option Kind) (c : Category) (least : ℕ) (x : Kinded) (i j : Input) → ((kind : Kind) → o ≡ Some kind → Begun (word i) kind) → Inside s i
-      → begun node o c least i ≡ Ok (x, j) → First c least i j x
+      → begun depth node o c least i ≡ Ok (x, j) → First c least i j x
   first_ok None c least x i j begun_so h e = absurd cc
   first_ok (Some kind) c least x i j begun_so h e =
       elim (branch (belongs kind c && nat_le least (level kind)) _ _ _ e) [
         | inl g ↦
             let start = start_of kind i.at (opening i) in
-            let a = bound (filled node kind start ([], []) (settled kind i)) _ _ g.1 in
+            let a = bound (filled depth node kind start ([], []) (settled kind i)) _ _ g.1 in
             let b = begun_so kind refl in
             let here = start_ok i kind h b in
             let on : Move s i (settled kind i) = record { inside = record { text_is = h.text_is; within = here.1.within }; grows = unchanged i.spans } in
@@ -481,10 +483,10 @@ module _ (s : List ℕ) (node : Category → ℕ → Reader Syntax) (sound : IsS
         | inr g ↦ absurd cc
       ]
 
-  whole_ok : (c : Category) (least : ℕ) (y : Syntax) (i j : Input) → Inside s i → whole node c least i ≡ Ok (y, j) → Tree s c least i j y
+  whole_ok : (c : Category) (least : ℕ) (y : Syntax) (i j : Input) → Inside s i → whole depth node c least i ≡ Ok (y, j) → Tree s c least i j y
   unfolding whole climbed first
   whole_ok c least y i j h e =
-      let a = bound (first node c least i) _ _ e in
+      let a = bound (first depth node c least i) _ _ e in
       let x = a.0 in
       let f = first_ok (begun_by c (word i)) c least x i a.1 (λ kind. begun_ok c (word i) kind) h a.2 in
       let start = start_of x.1 i.at (opening i) in
@@ -493,7 +495,7 @@ module _ (s : List ℕ) (node : Category → ℕ → Reader Syntax) (sound : IsS
 pub node_ok : (s : List ℕ) (depth : ℕ) → IsSound s (node depth)
 unfolding node
 node_ok s zero c l i j x h e = absurd cc
-node_ok s (suc depth) c l i j x h e = whole_ok s (node depth) (node_ok s depth) c l x i j h e
+node_ok s (suc depth) c l i j x h e = whole_ok s depth (node depth) (node_ok s depth) c l x i j h e
 
 ends_with : (s : List ℕ) (b e : ℕ) → (b ≡ length s) × (e ≡ b) → e ≡ length s
 ends_with s b e h = h.1 ∙ h.0

@@ -1,5 +1,5 @@
 -- Where one thing is said of each node, what follows from it may be said too.
-use Rattle.std.proofs.Common.{ℕ, List, Bool, Option}
+use Rattle.std.proofs.Common.{ℕ, List}
 use Rattle.tree_core.specs.declared.span.Span.{Span}
 use Rattle.tree_core.specs.declared.scalars.Scalar.{Scalar}
 use Rattle.tree_core.specs.Syntax.{Syntax}

@@ -2,16 +2,16 @@
 use Rattle.std.specs.Prelude.{ℕ, Result}
 use Rattle.std.specs.declared.alloc.Global.{Global}
 use denote.Ref.{MutBor}
-use Rattle.tree_core.specs.declared.tree.Tree.{Tree}
-use Rattle.tree_core.specs.View.{syntax}
 use Rattle.first_grammar.specs.declared.table.Category.{Category}
+use Rattle.first_grammar.specs.declared.measured.Grown.{Grown}
 use Rattle.first_grammar.specs.declared.error.ReadError.{ReadError}
 use Rattle.first_grammar.specs.Input.{Input, Gives}
 use Rattle.first_grammar.specs.Reading.{node}
+use Rattle.first_grammar.specs.Growing.{grown_view}
 
 -- it may be called at the depth, and gives what the reader of that depth gives
 pub record Nests (depth : ℕ) (pre : Global → MutBor Input → ℕ → Category → ℕ → Type 0)
-    (post : Global → MutBor Input → ℕ → Category → ℕ → Result Tree ReadError → MutBor Input → Type 0) : Type 0 where
+    (post : Global → MutBor Input → ℕ → Category → ℕ → Result Grown ReadError → MutBor Input → Type 0) : Type 0 where
   pub callable : (alloc : Global) (old : MutBor Input) (c : Category) (least : ℕ) → pre alloc old depth c least
-  pub reads : (alloc : Global) (old new : MutBor Input) (c : Category) (least : ℕ) (r : Result Tree ReadError) → post alloc old depth c least r new
-      → Gives syntax (node depth c least old.now) r new.now
+  pub reads : (alloc : Global) (old new : MutBor Input) (c : Category) (least : ℕ) (r : Result Grown ReadError) → post alloc old depth c least r new
+      → Gives grown_view (node depth c least old.now) r new.now

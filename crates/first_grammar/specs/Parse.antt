@@ -6,7 +6,7 @@ use Rattle.tree_core.specs.Syntax.{Syntax}
 use Rattle.tree_core.specs.View.{syntax}
 use Rattle.first_grammar.specs.declared.error.ReadError.{ReadError}
 use Rattle.first_grammar.specs.declared.error.ReadError.TheVariants.{NoMemory}
-use Rattle.first_grammar.specs.Input.{Input, Outcome, begin}
+use Rattle.first_grammar.specs.Input.{Outcome, begin}
 use Rattle.first_grammar.specs.Reading.{program}
 
 abbrev pub with_spans : Outcome Syntax → Result (Syntax × List Span) ReadError

@@ -1,12 +1,11 @@
 -- How trees are read: the table of forms is interpreted, and what goes on from a first child is climbed
 -- by levels. Each function of the reader has its function on inputs here, in the same order.
-use Rattle.std.specs.Prelude.{ℕ, zero, suc, Bool, ◌&&◌, if◌then◌else◌, nat_le, List, [], ◌∷◌, ◌++◌, map, Option, Some, None, Ok}
+use Rattle.std.specs.Prelude.{ℕ, zero, suc, Bool, ◌&&◌, if◌then◌else◌, nat_le, List, [], ◌∷◌, ◌++◌, Option, Some, None, Ok}
 use Rattle.tree_core.specs.declared.scalars.Scalar.{Scalar}
 use Rattle.tree_core.specs.declared.scalars.Scalar.TheVariants as scalar
-use Rattle.tree_core.specs.declared.tree.Slot.{Slot}
-use Rattle.tree_core.specs.declared.tree.Tree.{Tree}
+use Rattle.tree_core.specs.Height.{slots_height}
 use Rattle.tree_core.specs.Syntax.{Syntax}
-use Rattle.tree_core.specs.View.{Spot, Row, slot_view, syntax}
+use Rattle.tree_core.specs.View.{Spot, Row, slots_of}
 use Rattle.first_grammar.specs.declared.table.Kind.{Kind}
 use Rattle.first_grammar.specs.declared.table.Word.{Word}
 use Rattle.first_grammar.specs.declared.table.Word.TheVariants as w
@@ -22,18 +21,12 @@ use Rattle.first_grammar.specs.Input.{Reader, Outcome, word, opening, settled, s
 abbrev pub Read : Type 0
 Read = List Scalar × List Row
 
-abbrev pub read_view : List Scalar × List Slot → Read
-read_view r = (r.0, map slot_view r.1)
-
 abbrev pub made : Kind → Read → ℕ → Syntax
 made kind r from = node_of kind r.0 r.1 (Some from)
 
 -- a tree, and its kind
 abbrev pub Kinded : Type 0
 Kinded = Syntax × Kind
-
-abbrev pub kinded_view : Tree × Kind → Kinded
-kinded_view x = (syntax x.0, x.1)
 
 abbrev pub with_scalar : Read → List ℕ → Read
 with_scalar r units = (r.0 ++ scalar.Text units ∷ [], r.1)
@@ -105,10 +98,16 @@ module _ (node : Category → ℕ → Reader Syntax) where
   parts [] r = pure r
   parts (q ∷ qs) r = part q r >>= parts qs
 
-  -- a node that begins at the offset, of which this much is read
+-- refused where deeper trees nest in what is read of a form
+abbrev pub shallow : ℕ → Read → Reader (Unit {0})
+shallow depth r = if nat_le (slots_height (slots_of r.1)) depth then pure tt else too_deep
+
+module _ (depth : ℕ) (node : Category → ℕ → Reader Syntax) where
+  -- a node that begins at the offset, of which this much is read; in it trees nest no deeper than the number
   unfoldable pub filled : Kind → ℕ → Read → Reader Syntax
   filled kind start r = do
-    whole ← parts (tail kind) r
+    whole ← parts node (tail kind) r
+    shallow depth whole
     from ← numbered start
     pure (made kind whole from)
 
@@ -140,7 +139,7 @@ module _ (node : Category → ℕ → Reader Syntax) where
 -- a tree at a place of this category and level, with trees nested no deeper than the number
 unfoldable pub node : ℕ → Category → ℕ → Reader Syntax
 node zero category least = too_deep
-node (suc depth) category least = whole (node depth) category least
+node (suc depth) category least = whole depth (node depth) category least
 
 abbrev pub max_nesting : ℕ
 max_nesting = 1000

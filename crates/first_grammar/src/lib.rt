@@ -6,6 +6,9 @@
 
 pub mod cursor;
 pub mod error;
+pub mod growing;
+pub mod measured;
+pub mod number;
 pub mod parser;
 pub mod reader;
 pub mod table;

@@ -21,8 +21,8 @@ fn read(alloc: Global, source: &[u8]) -> Result<(Tree, Spans), ReadError>
     ensures { spec.Is (spec.raw source.now) result }
 {
     let mut cursor = Cursor::new(alloc, source);
-    let tree = program(alloc, &mut cursor)?;
-    Ok((tree, cursor.into_spans()))
+    let grown = program(alloc, &mut cursor)?;
+    Ok((grown.tree, cursor.into_spans()))
 }
 
 /// The tree that the text spells, and where its nodes stand by their numbers. The text has at most

@@ -3,68 +3,41 @@
 //! The rules take the reader of nested trees as a function value, so that each is proved alone, and
 //! only `node` is a recursion.
 
-ghost use Rattle.std.specs.Prelude.{[], ◌∷◌, ◌++◌, ◌≡◌, IfOk, map};
-ghost use Rattle.tree_core.specs.View.{syntax, place_view, slot_view};
+ghost use Rattle.std.specs.Prelude.{[], ◌≡◌};
+ghost use Rattle.first_grammar.specs.Growing.{grown_view, kinded_view, children_view, parts_view};
 ghost use Rattle.first_grammar.specs.Input as input;
 ghost use Rattle.first_grammar.specs.Input.{Gives};
 ghost use Rattle.first_grammar.specs.Nests.{Nests};
 ghost use Rattle.first_grammar.specs.Reading as spec;
-ghost use Rattle.first_grammar.specs.Reading.{read_view, kinded_view, unnamed};
-ghost use Rattle.first_grammar.specs.Spells as spells;
 
 use crate::cursor::Cursor;
 use crate::error::ReadError;
+use crate::measured::{Children, Grown, Parts};
 use crate::table::{
-    Category, Kind, Part, Word, begun_by, belongs, fixed, is_whole, led_by, left, level, number,
-    tail,
+    Category, Kind, Part, Word, begun_by, belongs, is_whole, led_by, left, level, tail,
 };
-use sqlite_items::Items;
-use std::alloc::{AllocError, Global};
-use tree_core::{Place, Scalar, Scalars, Slot, Tree};
+use std::alloc::Global;
 
 /// How deep trees may nest while they are read.
-const MAX_NESTING: usize = 1000;
-
-/// What is read of a form so far.
-type Read = (Scalars, Items<Slot>);
-
-fn push_tree(alloc: Global, places: &mut Items<Place>, tree: Tree) -> Result<(), AllocError>
-    ensures { IfOk result (λ _. map place_view places.new ≡ map place_view places.old ++ unnamed (syntax tree) ∷ []) }
-{
-    places.push(Place::filled(alloc, tree)?)
-}
-
-fn push_slot(slots: &mut Items<Slot>, slot: Slot) -> Result<(), AllocError>
-    ensures { IfOk result (λ _. map slot_view slots.new ≡ map slot_view slots.old ++ slot_view slot ∷ []) }
-{
-    slots.push(slot)
-}
-
-/// Adds a slot of one place, where the tree stands.
-fn push_child(alloc: Global, slots: &mut Items<Slot>, tree: Tree) -> Result<(), AllocError>
-    ensures { IfOk result (λ _. map slot_view slots.new ≡ map slot_view slots.old ++ spells.one None (syntax tree) ∷ []) }
-{
-    let place = Place::filled(alloc, tree)?;
-    push_slot(slots, Slot::single(place))
-}
+const MAX_NESTING: u32 = 1000;
 
 #[derive(Clone, Copy)]
 pub struct Grammar<F> {
     pub alloc: Global,
     /// How deep trees may still nest.
-    pub depth: usize,
+    pub depth: u32,
     pub node: F,
 }
 
-impl<F: Fn(Global, &mut Cursor<'_>, usize, Category, u8) -> Result<Tree, ReadError>> Grammar<F> {
+impl<F: Fn(Global, &mut Cursor<'_>, u32, Category, u8) -> Result<Grown, ReadError>> Grammar<F> {
     fn node(
         &self,
         cursor: &mut Cursor<'_>,
         category: Category,
         least: u8,
-    ) -> Result<Tree, ReadError>
+    ) -> Result<Grown, ReadError>
         requires { Nests self.now.depth (F.pre self.now.node) (F.post self.now.node) }
-        ensures { Gives syntax (spec.node self.now.depth category least cursor.old) result cursor.new }
+        ensures { Gives grown_view (spec.node self.now.depth category least cursor.old) result cursor.new }
     {
         (self.node)(self.alloc, cursor, self.depth, category, least)
     }
@@ -75,14 +48,14 @@ impl<F: Fn(Global, &mut Cursor<'_>, usize, Category, u8) -> Result<Tree, ReadErr
         cursor: &mut Cursor<'_>,
         category: Category,
         least: u8,
-    ) -> Result<Items<Place>, ReadError>
+    ) -> Result<Children, ReadError>
         requires { Nests self.now.depth (F.pre self.now.node) (F.post self.now.node) }
-        ensures { Gives (map place_view) (spec.listed_from (spec.node self.now.depth) category least (input.turns cursor.old) [] cursor.old) result cursor.new }
+        ensures { Gives children_view (spec.listed_from (spec.node self.now.depth) category least (input.turns cursor.old) [] cursor.old) result cursor.new }
     {
-        let mut found = Items::new(self.alloc);
+        let mut found = Children::new(self.alloc);
         for _turn in 0..cursor.turns() {
             let tree = self.node(cursor, category, least)?;
-            push_tree(self.alloc, &mut found, tree)?;
+            found = found.with(self.alloc, tree)?;
             if !cursor.eat(Word::Comma) {
                 return Ok(found);
             }
@@ -97,12 +70,12 @@ impl<F: Fn(Global, &mut Cursor<'_>, usize, Category, u8) -> Result<Tree, ReadErr
         category: Category,
         least: u8,
         close: Word,
-    ) -> Result<Items<Place>, ReadError>
+    ) -> Result<Children, ReadError>
         requires { Nests self.now.depth (F.pre self.now.node) (F.post self.now.node) }
-        ensures { Gives (map place_view) (spec.listed (spec.node self.now.depth) category least close cursor.old) result cursor.new }
+        ensures { Gives children_view (spec.listed (spec.node self.now.depth) category least close cursor.old) result cursor.new }
     {
         if cursor.sees(close) {
-            return Ok(Items::new(self.alloc));
+            return Ok(Children::new(self.alloc));
         }
         self.listed_from(cursor, category, least)
     }
@@ -113,54 +86,51 @@ impl<F: Fn(Global, &mut Cursor<'_>, usize, Category, u8) -> Result<Tree, ReadErr
         cursor: &mut Cursor<'_>,
         category: Category,
         close: Word,
-    ) -> Result<Items<Place>, ReadError>
+    ) -> Result<Children, ReadError>
         requires { Nests self.now.depth (F.pre self.now.node) (F.post self.now.node) }
-        ensures { Gives (map place_view) (spec.in_row (spec.node self.now.depth) category close cursor.old) result cursor.new }
+        ensures { Gives children_view (spec.in_row (spec.node self.now.depth) category close cursor.old) result cursor.new }
     {
-        let mut found = Items::new(self.alloc);
+        let mut found = Children::new(self.alloc);
         for _turn in 0..cursor.turns() {
             if cursor.sees(close) {
                 return Ok(found);
             }
             let tree = self.node(cursor, category, 1)?;
-            push_tree(self.alloc, &mut found, tree)?;
+            found = found.with(self.alloc, tree)?;
         }
         Ok(found)
     }
 
     #[tactic(auto, unfolding(crate::specs::Reading::part))]
-    fn part(&self, cursor: &mut Cursor<'_>, part: Part, read: Read) -> Result<Read, ReadError>
+    fn part(&self, cursor: &mut Cursor<'_>, part: Part, read: Parts) -> Result<Parts, ReadError>
         requires { Nests self.now.depth (F.pre self.now.node) (F.post self.now.node) }
-        ensures { Gives read_view (spec.part (spec.node self.now.depth) part (read_view read) cursor.old) result cursor.new }
+        ensures { Gives parts_view (spec.part (spec.node self.now.depth) part (parts_view read) cursor.old) result cursor.new }
     {
-        let (scalars, mut slots) = read;
+        let alloc = self.alloc;
         match part {
             Part::Token(word) => {
                 cursor.expect(word)?;
-                Ok((scalars, slots))
+                Ok(read)
             }
             Part::Name => {
-                let name = cursor.name(self.alloc)?;
-                Ok((scalars.with(self.alloc, Scalar::Text(name))?, slots))
+                let name = cursor.name(alloc)?;
+                Ok(read.with_text(alloc, name)?)
             }
             Part::AnyName => {
-                let name = cursor.any_name(self.alloc)?;
-                Ok((scalars.with(self.alloc, Scalar::Text(name))?, slots))
+                let name = cursor.any_name(alloc)?;
+                Ok(read.with_text(alloc, name)?)
             }
             Part::Child(category, least) => {
                 let tree = self.node(cursor, category, least)?;
-                push_child(self.alloc, &mut slots, tree)?;
-                Ok((scalars, slots))
+                Ok(read.with_child(alloc, tree)?)
             }
             Part::List(category, least, close) => {
-                let places = self.listed(cursor, category, least, close)?;
-                push_slot(&mut slots, Slot::list(places))?;
-                Ok((scalars, slots))
+                let children = self.listed(cursor, category, least, close)?;
+                Ok(read.with_list(children)?)
             }
             Part::Body(category, close) => {
-                let places = self.in_row(cursor, category, close)?;
-                push_slot(&mut slots, Slot::list(places))?;
-                Ok((scalars, slots))
+                let children = self.in_row(cursor, category, close)?;
+                Ok(read.with_list(children)?)
             }
         }
     }
@@ -169,10 +139,10 @@ impl<F: Fn(Global, &mut Cursor<'_>, usize, Category, u8) -> Result<Tree, ReadErr
         &self,
         cursor: &mut Cursor<'_>,
         parts: &[Part],
-        mut read: Read,
-    ) -> Result<Read, ReadError>
+        mut read: Parts,
+    ) -> Result<Parts, ReadError>
         requires { Nests self.now.depth (F.pre self.now.node) (F.post self.now.node) }
-        ensures { Gives read_view (spec.parts (spec.node self.now.depth) parts.now (read_view read) cursor.old) result cursor.new }
+        ensures { Gives parts_view (spec.parts (spec.node self.now.depth) parts.now (parts_view read) cursor.old) result cursor.new }
     {
         for part in parts {
             read = self.part(cursor, *part, read)?;
@@ -180,30 +150,24 @@ impl<F: Fn(Global, &mut Cursor<'_>, usize, Category, u8) -> Result<Tree, ReadErr
         Ok(read)
     }
 
-    /// The rest of a node that begins at the offset, of which these slots are read.
+    /// A node that begins at the offset, of which this much is read.
     #[tactic(auto, unfolding(crate::specs::Reading::filled))]
     fn filled(
         &self,
         cursor: &mut Cursor<'_>,
         kind: Kind,
         start: u32,
-        slots: Items<Slot>,
-    ) -> Result<Tree, ReadError>
+        read: Parts,
+    ) -> Result<Grown, ReadError>
         requires { Nests self.now.depth (F.pre self.now.node) (F.post self.now.node) }
-        ensures { Gives syntax (spec.filled (spec.node self.now.depth) kind start ([], map slot_view slots) cursor.old) result cursor.new }
+        ensures { Gives grown_view (spec.filled self.now.depth (spec.node self.now.depth) kind start (parts_view read) cursor.old) result cursor.new }
     {
-        let (spelled, slots) = self.parts(cursor, tail(kind), (Scalars::new(), slots))?;
-        let scalars = fixed(self.alloc, kind)?.append(self.alloc, spelled)?;
+        let whole = self.parts(cursor, tail(kind), read)?;
+        if whole.levels > self.depth as usize {
+            return Err(cursor.too_deep());
+        }
         let from = cursor.numbered(start)?;
-        Ok(Tree {
-            kind: number(kind),
-            scalars,
-            slots,
-            lead: Items::new(self.alloc),
-            trail: Items::new(self.alloc),
-            inner: Items::new(self.alloc),
-            from: Some(from),
-        })
+        Ok(whole.into_node(self.alloc, kind, from)?)
     }
 
     /// A tree whose form begins with a token, and its kind.
@@ -213,15 +177,15 @@ impl<F: Fn(Global, &mut Cursor<'_>, usize, Category, u8) -> Result<Tree, ReadErr
         cursor: &mut Cursor<'_>,
         category: Category,
         least: u8,
-    ) -> Result<(Tree, Kind), ReadError>
+    ) -> Result<(Grown, Kind), ReadError>
         requires { Nests self.now.depth (F.pre self.now.node) (F.post self.now.node) }
-        ensures { Gives kinded_view (spec.first (spec.node self.now.depth) category least cursor.old) result cursor.new }
+        ensures { Gives kinded_view (spec.first self.now.depth (spec.node self.now.depth) category least cursor.old) result cursor.new }
     {
         match begun_by(category, cursor.word()) {
             Some(kind) if belongs(kind, category) && least <= level(kind) => {
                 let start = start_of(kind, cursor.at(), cursor.opening());
                 settle(cursor, kind);
-                let tree = self.filled(cursor, kind, start, Items::new(self.alloc))?;
+                let tree = self.filled(cursor, kind, start, Parts::new(self.alloc))?;
                 Ok((tree, kind))
             }
             _ => Err(cursor.refuse()),
@@ -235,10 +199,10 @@ impl<F: Fn(Global, &mut Cursor<'_>, usize, Category, u8) -> Result<Tree, ReadErr
         category: Category,
         least: u8,
         start: u32,
-        first: (Tree, Kind),
-    ) -> Result<Tree, ReadError>
+        first: (Grown, Kind),
+    ) -> Result<Grown, ReadError>
         requires { Nests self.now.depth (F.pre self.now.node) (F.post self.now.node) }
-        ensures { Gives syntax (spec.climbed (spec.node self.now.depth) category least start (kinded_view first) cursor.old) result cursor.new }
+        ensures { Gives grown_view (spec.climbed self.now.depth (spec.node self.now.depth) category least start (kinded_view first) cursor.old) result cursor.new }
     {
         let (mut tree, mut kind) = first;
         for _turn in 0..cursor.turns() {
@@ -246,9 +210,8 @@ impl<F: Fn(Global, &mut Cursor<'_>, usize, Category, u8) -> Result<Tree, ReadErr
                 return Ok(tree);
             };
             cursor.take();
-            let mut slots = Items::new(self.alloc);
-            push_child(self.alloc, &mut slots, tree)?;
-            tree = self.filled(cursor, longer, start, slots)?;
+            let read = Parts::new(self.alloc).with_child(self.alloc, tree)?;
+            tree = self.filled(cursor, longer, start, read)?;
             kind = longer;
         }
         Ok(tree)
@@ -260,9 +223,9 @@ impl<F: Fn(Global, &mut Cursor<'_>, usize, Category, u8) -> Result<Tree, ReadErr
         cursor: &mut Cursor<'_>,
         category: Category,
         least: u8,
-    ) -> Result<Tree, ReadError>
+    ) -> Result<Grown, ReadError>
         requires { Nests self.now.depth (F.pre self.now.node) (F.post self.now.node) }
-        ensures { Gives syntax (spec.whole (spec.node self.now.depth) category least cursor.old) result cursor.new }
+        ensures { Gives grown_view (spec.whole self.now.depth (spec.node self.now.depth) category least cursor.old) result cursor.new }
     {
         let at = cursor.at();
         let opening = cursor.opening();
@@ -307,11 +270,11 @@ fn choose(category: Category, least: u8, first: Kind, word: Word) -> Option<Kind
 fn node(
     alloc: Global,
     cursor: &mut Cursor<'_>,
-    depth: usize,
+    depth: u32,
     category: Category,
     least: u8,
-) -> Result<Tree, ReadError>
-    ensures { Gives syntax (spec.node depth category least cursor.old) result cursor.new }
+) -> Result<Grown, ReadError>
+    ensures { Gives grown_view (spec.node depth category least cursor.old) result cursor.new }
 {
     if depth == 0 {
         return Err(cursor.too_deep());
@@ -322,8 +285,8 @@ fn node(
 
 /// The tree of a whole text.
 #[tactic(auto, unfolding(crate::specs::Reading::program))]
-pub fn program(alloc: Global, cursor: &mut Cursor<'_>) -> Result<Tree, ReadError>
-    ensures { Gives syntax (spec.program cursor.old) result cursor.new }
+pub fn program(alloc: Global, cursor: &mut Cursor<'_>) -> Result<Grown, ReadError>
+    ensures { Gives grown_view (spec.program cursor.old) result cursor.new }
 {
     node(alloc, cursor, MAX_NESTING, Category::Program, 1)
 }
