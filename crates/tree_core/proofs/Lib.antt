@@ -1,1 +1,4 @@
+pub mod Children
 pub mod Heights
+pub mod Sames
+pub mod Taken

@@ -1,3 +1,4 @@
+pub mod Address
 pub mod Bare
 pub mod Height
 pub mod Held

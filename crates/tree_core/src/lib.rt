@@ -5,17 +5,25 @@
 //! the table of kinds.
 #![tactic(auto)]
 
+mod address;
 mod comment;
+mod copying;
 mod depth;
 mod lists;
+mod sameness;
 mod scalars;
 mod span;
+#[cfg(test)]
+mod tests;
 mod tree;
 mod units;
 
+pub use address::{Address, Steps32, at};
 pub use comment::{Comment, Comments};
+pub use copying::copy;
 pub use depth::height;
 pub use lists::{Bytes, Name, Names, Numbers, Truths};
+pub use sameness::same;
 pub use scalars::{Scalar, Scalars};
 pub use span::{CommentSpans, Parsed, Span, Spans};
 pub use tree::{Place, PlaceName, Slot, Tree};

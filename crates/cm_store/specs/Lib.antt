@@ -1,0 +1,6 @@
+pub mod Contents
+pub mod Faults
+pub mod Files
+pub mod Reading
+pub mod States
+pub mod Writing

@@ -1,0 +1,8 @@
+use Rattle.tree_core.proofs.Sames.{places_length, slots_length}
+use Rattle.tree_core.proofs.sameness.+same.Goals as goal
+
+pub same_places-returns-then-a-b : goal.same_places-returns-then-a-b
+same_places-returns-then-a-b t c = ((λ h. cc), (λ e. absurd (c.if-a-b.true (places_length c.args.a.now c.args.b.now e))))
+
+pub same_slots-returns-then-a-b : goal.same_slots-returns-then-a-b
+same_slots-returns-then-a-b t c = ((λ h. cc), (λ e. absurd (c.if-a-b.true (slots_length c.args.a.now c.args.b.now e))))

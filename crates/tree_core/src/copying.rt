@@ -1,0 +1,104 @@
+//! Copies of trees.
+
+ghost use Rattle.std.specs.Prelude.{◌≡◌, IfOk};
+ghost use Rattle.tree_core.specs.View.{syntax, slot_view, place_view};
+
+use crate::comment::{Comment, Comments};
+use crate::scalars::{Scalar, Scalars};
+use crate::tree::{Place, Slot, Tree};
+use crate::units::Units;
+use sqlite_items::{Boxed, Items};
+use std::alloc::{AllocError, Global};
+
+/// An equal tree, with the same numbers and place names.
+#[cycle(copy)]
+pub fn copy(alloc: Global, tree: &Tree) -> Result<Tree, AllocError>
+    ensures { IfOk result (λ t. syntax t ≡ syntax tree.now) }
+{
+    let mut slots = Items::new(alloc);
+    for slot in tree.slots.as_slice() {
+        slots.push(copy_slot(alloc, slot)?)?;
+    }
+    Ok(Tree {
+        kind: tree.kind,
+        scalars: copy_scalars(alloc, &tree.scalars)?,
+        slots,
+        lead: copy_comments(alloc, &tree.lead)?,
+        trail: copy_comments(alloc, &tree.trail)?,
+        inner: copy_comments(alloc, &tree.inner)?,
+        from: tree.from,
+    })
+}
+
+#[cycle(copy)]
+fn copy_slot(alloc: Global, slot: &Slot) -> Result<Slot, AllocError>
+    ensures { IfOk result (λ s. slot_view s ≡ slot_view slot.now) }
+{
+    match slot {
+        Slot::Single(place) => Ok(Slot::Single(copy_place(alloc, place)?)),
+        Slot::List(places) => {
+            let mut copied = Items::new(alloc);
+            for place in places.as_slice() {
+                copied.push(copy_place(alloc, place)?)?;
+            }
+            Ok(Slot::List(copied))
+        }
+    }
+}
+
+#[cycle(copy)]
+fn copy_place(alloc: Global, place: &Place) -> Result<Place, AllocError>
+    ensures { IfOk result (λ p. place_view p ≡ place_view place.now) }
+{
+    let node = match &place.node {
+        None => None,
+        Some(node) => Some(Boxed::new(alloc, copy(alloc, node.get())?)?),
+    };
+    Ok(Place {
+        name: place.name,
+        node,
+    })
+}
+
+fn copy_comments(alloc: Global, comments: &Comments) -> Result<Comments, AllocError>
+    ensures { IfOk result (λ copied. copied ≡ comments.now) }
+{
+    let mut copied = Items::new(alloc);
+    for comment in comments.as_slice() {
+        copied.push(Comment {
+            block: comment.block,
+            text: copy_units(alloc, &comment.text)?,
+        })?;
+    }
+    Ok(copied)
+}
+
+#[tactic(auto, using(std::proofs::lemmas::Option::gets))]
+fn copy_scalars(alloc: Global, scalars: &Scalars) -> Result<Scalars, AllocError>
+    ensures { IfOk result (λ copied. copied ≡ scalars.now) }
+{
+    let mut copied = Scalars::new();
+    for at in 0..scalars.len() {
+        match scalars.get(at) {
+            None => return Ok(copied),
+            Some(scalar) => copied = copied.with(alloc, copy_scalar(alloc, scalar)?)?,
+        }
+    }
+    Ok(copied)
+}
+
+fn copy_scalar(alloc: Global, scalar: &Scalar) -> Result<Scalar, AllocError>
+    ensures { IfOk result (λ copied. copied ≡ scalar.now) }
+{
+    match scalar {
+        Scalar::Text(text) => Ok(Scalar::Text(copy_units(alloc, text)?)),
+        Scalar::Truth(truth) => Ok(Scalar::Truth(*truth)),
+        Scalar::Null => Ok(Scalar::Null),
+    }
+}
+
+fn copy_units(alloc: Global, units: &Units) -> Result<Units, AllocError>
+    ensures { IfOk result (λ copied. copied ≡ units.now) }
+{
+    Ok(Units::new(Vec::from_slice(alloc, units.get())?))
+}

@@ -1,0 +1,3 @@
+pub mod FieldTable
+pub mod GroupTable
+pub mod KindTable
