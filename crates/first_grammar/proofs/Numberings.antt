@@ -84,4 +84,3 @@ mutual
 -- numbered again, it is the same
 pub numbered_again : (n : ℕ) (x : Syntax) → numbered n (numbered n x) ≡ numbered n x
 numbered_again n x = sym (bare_numbered n (numbered n x)) ∙ ap (numbered n) (numbered_bare n x) ∙ bare_numbered n x
-

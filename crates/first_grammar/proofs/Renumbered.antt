@@ -1,5 +1,5 @@
 -- A tree that is numbered anew is spelled as before, with the spans in the order of the new numbers.
-use Rattle.std.proofs.Common.{◌≡◌, ◌+◌, ℕ, Bool, true, false, List, [], ◌∷◌, ◌++◌, Option, Some, None, length, refl, sym, ◌∙◌, ap, subst, arith, append_assoc, append-nil}
+use Rattle.std.proofs.Common.{◌≡◌, ◌+◌, ℕ, true, false, List, [], ◌∷◌, ◌++◌, Option, Some, None, length, refl, sym, ◌∙◌, ap, subst, arith, append_assoc, append-nil}
 use Rattle.std.specs.Prelude.{slice_get, unwrap_or}
 use Rattle.std.proofs.lemmas.List.{length-append}
 use Rattle.tree_core.specs.declared.span.Span.{Span}
@@ -10,7 +10,7 @@ use Rattle.first_grammar.specs.declared.table.Kind.{Kind}
 use Rattle.first_grammar.specs.declared.table.Category.{Category}
 use Rattle.first_grammar.specs.declared.table.Part.{Part}
 use Rattle.first_grammar.specs.Table.{number, fixed}
-use Rattle.first_grammar.specs.Spells.{Spells, Node, Fills, Listed, InRow, formed, built, no_parts, a_token, a_name, free_name, a_child, empty_list, a_list, a_body, last, more, row_end, row_next, bare_notes, node_of, one, all, At, HasSpan, Whole}
+use Rattle.first_grammar.specs.Spells.{Spells, Node, Fills, Listed, InRow, formed, built, no_parts, a_token, a_name, free_name, a_child, empty_list, a_list, a_body, last, more, row_end, row_next, bare_notes, one, all, At, HasSpan, Whole}
 use Rattle.first_grammar.specs.Numbers.{count, places_count, places_length, name_of, numbered, numbered_slots, numbered_places, span_of, nowhere, spans_of, slots_spans, places_spans}
 use Rattle.first_grammar.proofs.Passed.{get_seam}
 use Rattle.first_grammar.proofs.Numberings.{spans_count, places_spans_count}
@@ -87,8 +87,7 @@ module _ (s : List ℕ) (old z : List Span) where
         let there = lies_left z n (places_spans old (places_of xs)) (slots_spans old (slots_of rows)) lies in
         let rest = lies_right z n _ (places_spans old (places_of xs)) (slots_spans old (slots_of rows)) (places_spans_count old (places_of xs)) lies in
         let ys = listed c l i e xs parent child n there g in
-        let new = fills qs e j scalars rows parent (child + places_length (places_of xs)) (n + places_count (places_of xs)) rest h in
-        (
+        let new = fills qs e j scalars rows parent (child + places_length (places_of xs)) (n + places_count (places_of xs)) rest h in (
           all ys.0 ∷ new.0,
           ap (λ v. slot true v (slots_of new.0)) ys.1 ∙ ap (λ v. slot true (numbered_places parent child n (places_of xs)) v) new.1,
           a_list c l close qs i e j ys.0 scalars new.0 ys.2 new.2,
@@ -97,8 +96,7 @@ module _ (s : List ℕ) (old z : List Span) where
         let there = lies_left z n (places_spans old (places_of xs)) (slots_spans old (slots_of rows)) lies in
         let rest = lies_right z n _ (places_spans old (places_of xs)) (slots_spans old (slots_of rows)) (places_spans_count old (places_of xs)) lies in
         let ys = in_row c i e xs parent child n there g in
-        let new = fills qs e j scalars rows parent (child + places_length (places_of xs)) (n + places_count (places_of xs)) rest h in
-        (
+        let new = fills qs e j scalars rows parent (child + places_length (places_of xs)) (n + places_count (places_of xs)) rest h in (
           all ys.0 ∷ new.0,
           ap (λ v. slot true v (slots_of new.0)) ys.1 ∙ ap (λ v. slot true (numbered_places parent child n (places_of xs)) v) new.1,
           a_body c close qs i e j ys.0 scalars new.0 ys.2 new.2,

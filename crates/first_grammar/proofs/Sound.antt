@@ -373,9 +373,9 @@ module _ (s : List ℕ) (depth : ℕ) (node : Category → ℕ → Reader Syntax
   unfolding filled
   filled_ok kind start r x i j h e =
       let a = bound (parts node (tail kind) r i) _ _ e in
-      let low = bound (shallow depth a.0 a.1) _ _ a.3 in
+      let low = bound (shallow depth a.0 a.1) (λ _. λ i. and_then (numbered start i) (λ from. pure (made kind a.0 from))) (x, j) a.3 in
       let here = shallow_ok depth a.0 a.1 low.1 low.0 low.2 in
-      let b = bound (numbered start a.1) _ _ (subst (λ y. and_then (numbered start y) (λ from. pure (made kind a.0 from)) ≡ Ok (x, j)) (sym here.1) low.3) in
+      let b = bound (numbered start a.1) (λ from. pure (made kind a.0 from)) (x, j) (subst (λ y. and_then (numbered start y) (λ from. pure (made kind a.0 from)) ≡ Ok (x, j)) (sym here.1) low.3) in
       let end = same_ok _ _ _ _ b.3 in
       let t = parts_ok (tail kind) r a.0 i a.1 (tail_known kind) h a.2 in
       let n = numbered_ok start b.0 a.1 b.1 b.2 in

@@ -1,13 +1,12 @@
 -- How far a walk over slots or places has come that numbers them in their order.
-use Rattle.std.proofs.Common.{◌≡◌, ◌≤◌, ◌+◌, ◌*◌, ℕ, Bool, List, [], ◌∷◌, ◌++◌, Option, Some, None, map, length, reverse, refl, sym, ◌∙◌, ap, subst, arith, append_assoc, append-nil}
+use Rattle.std.proofs.Common.{◌≡◌, ◌≤◌, ◌+◌, ℕ, List, [], ◌∷◌, ◌++◌, Some, None, map, length, reverse, refl, sym, ◌∙◌, ap, subst, arith, append_assoc, append-nil}
 use Rattle.std.proofs.lemmas.List.{length-append, map-append, reverse-append}
 use Rattle.tree_core.specs.declared.span.Span.{Span}
 use Rattle.tree_core.specs.declared.tree.Place.{Place}
-use Rattle.tree_core.specs.declared.tree.PlaceName.{PlaceName}
 use Rattle.tree_core.specs.declared.tree.Slot.{Slot}
-use Rattle.tree_core.specs.Syntax.{Syntax, Slots, no_slots, slot, Places, no_places, hole, place}
+use Rattle.tree_core.specs.Syntax.{Slots, no_slots, slot, Places, no_places, hole}
 use Rattle.tree_core.specs.View.{Spot, Row, spot, slots_of, places_of, slot_view, place_view}
-use Rattle.first_grammar.specs.Numbers.{slots_count, places_count, places_length, numbered, numbered_slots, numbered_places, spans_of, slots_spans, places_spans, numbered_spot, spot_spans, spot_count, name_of}
+use Rattle.first_grammar.specs.Numbers.{slots_count, places_count, places_length, numbered_slots, numbered_places, slots_spans, places_spans, numbered_spot, spot_spans, spot_count, name_of}
 use Rattle.first_grammar.proofs.Numberings.{places_spans_count, spans_count}
 
 -- items that wait in the other order
@@ -86,7 +85,7 @@ slots_next spans node slots start waiting rest done more s new child next given 
     let is_done : map slot_view more ≡ map slot_view done ++ (row.0, numbered_places node child (length given) row.1) ∷ [] =
     ap (map slot_view) add ∙ map-append slot_view done (new ∷ []) ∙ ap (λ z. map slot_view done ++ z ∷ []) view in
     let ahead : slots_before (map slot_view more) (numbered_slots node next (length grown) (all_slots (reverse rest)))
-        ≡ slots_before (map slot_view done) (numbered_slots node child (length given) (slot row.0 row.1 (all_slots (reverse rest)))) =
+    ≡ slots_before (map slot_view done) (numbered_slots node child (length given) (slot row.0 row.1 (all_slots (reverse rest)))) =
     ap (λ z. slots_before z (numbered_slots node next (length grown) (all_slots (reverse rest)))) is_done
     ∙ ap (λ z. slots_before (map slot_view done ++ (row.0, numbered_places node child (length given) row.1) ∷ []) (numbered_slots node z (length grown) (all_slots (reverse rest)))) after
     ∙ ap (λ z. slots_before (map slot_view done ++ (row.0, numbered_places node child (length given) row.1) ∷ []) (numbered_slots node (child + places_length row.1) z (all_slots (reverse rest)))) long
