@@ -8,6 +8,7 @@ use Rattle.tree_core.specs.declared.span.Span.{Span}
 use Rattle.cm_text.specs.declared.source.TheConstants.{MAX_LENGTH}
 use Rattle.first_grammar.specs.Spells.{At, Whole, Reads}
 use Rattle.first_grammar.specs.Reading.{max_nesting}
+use Rattle.first_grammar.specs.Numbers.{numbered}
 use Rattle.first_rename.specs.Names.{renamed, count_of}
 use Rattle.first_rename.specs.Edits.{Keeps}
 use Rattle.codemod_cmd.specs.declared.answer.SyntaxKind.TheVariants.{Unexpected, Nesting}
@@ -22,9 +23,11 @@ pub record IsSource (s : List ℕ) : Type 0 where
   pub short : length s ≤ MAX_LENGTH
   pub utf8 : IsUtf8 s
 
--- the tree of a source, with the stretches of its nodes by number
+-- the tree of a source, its nodes numbered in preorder, with their stretches by number
 pub record IsTreeOf (s : List ℕ) (spans : List Span) (t : Tree) : Type 0 where
   pub spelled : Whole (At spans) s t
+  pub preorder : t ≡ numbered 0 t
+  pub nesting : height t ≤ max_nesting
 
 -- the most items of a list in a script
 abbrev pub max_items : ℕ
