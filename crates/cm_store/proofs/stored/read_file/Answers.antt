@@ -2,7 +2,7 @@ use Rattle.std.proofs.Common.{rules, ◌≡◌, ◌∙◌, sym, ap, Some}
 use Rattle.std.specs.FinMap.{get}
 use Rattle.cm_store.specs.Files.{files_of}
 use Rattle.cm_store.proofs.Lookup.{get-at, get-nowhere}
-use Rattle.cm_store.proofs.memory_store.read_file.Goals as goal
+use Rattle.cm_store.proofs.stored.read_file.Goals as goal
 
 pub returns-in_default-clause-answer : goal.returns-in_default-clause-answer
 returns-in_default-clause-answer c = get-nowhere c.args.name.now c.args.files.now (search rules)
