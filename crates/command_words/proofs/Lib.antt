@@ -1,3 +1,4 @@
 pub mod Numbers
 pub mod NameLists
+pub mod Unrefused
 pub mod Taken

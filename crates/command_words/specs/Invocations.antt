@@ -1,18 +1,16 @@
 -- The invocation that the words of a command line make.
-use Rattle.std.specs.Prelude.{ℕ, Bool, false, List, [], ◌∷◌, Option, Some, None, codes, option_map, option_and_then}
+use Rattle.std.specs.Prelude.{ℕ, Bool, false, List, [], ◌∷◌, Option, Some, None, if◌then◌else◌, codes, option_map, option_and_then}
 use Rattle.std.specs.Option.{option_map_or}
 use Rattle.std.specs.Str.{bytes_eq}
-use Rattle.clap.specs.Words.{Row, Text, all_of, first_of, matches_of}
-use Rattle.clap.specs.Faults.{fault_of}
-use Rattle.clap.specs.Kinds.{Kinds}
+use Rattle.clap.specs.Words.{Row, Text, all_of, first_of, matches_of, takes}
 use Rattle.cm_text.specs.declared.layout.Layout.{Layout}
 use Rattle.command_words.specs.declared.invocation.Invocation.{Invocation}
 use Rattle.command_words.specs.Shape.{command}
 use Rattle.command_words.specs.Values.{fuel_in, names_in, number_to, single_in}
 
--- why `clap` refuses the words as those of the command; it takes them where the list is empty
-unfoldable pub refusals : List Text → Kinds
-refusals words = fault_of command words
+-- `clap` takes the words as those of the command
+unfoldable pub are_taken : List Text → Bool
+are_taken words = takes command words
 
 -- what `clap` finds in words that it takes
 unfoldable pub matches : List Text → List Row
@@ -68,10 +66,6 @@ made rows _ _ _ _ _ = None
 unfoldable pub invocation_in : List Row → Option Invocation
 invocation_in rows = made rows (first_of (codes "transform") rows) (all_of (codes "files") rows) (fuel_of rows) (extensions_of rows) (layout_of rows)
 
-abbrev pub where_taken : Kinds → List Row → Option Invocation
-where_taken [] rows = invocation_in rows
-where_taken (kind ∷ kinds) rows = None
-
 -- what the words of a command line ask for, where `clap` takes them and each value passes
 abbrev pub invocation_of : List Text → Option Invocation
-invocation_of words = where_taken (refusals words) (matches words)
+invocation_of words = if are_taken words then invocation_in (matches words) else None

@@ -14,4 +14,4 @@ returns-in-Ok c =
 pub returns-in-Err : goal.returns-in-Err
 returns-in-Err c =
     let words = map string_bytes c.args.words.now in
-    IfOk-weaker c.refused.result _ _ (λ made e. e.0 ∙ not_taken (app_of c.in_ok-command.command) words (kind_of c.in-Err.error) c.in_ok-command.ensures c.in-Err.ensures.kinds e.1) c.refused.ensures
+    IfOk-weaker c.refused.result _ _ (λ made e. e.0 ∙ not_taken (app_of c.in_ok-command.command) words (kind_of c.in-Err.error) c.in_ok-command.ensures c.in-Err.ensures.passes e.1) c.refused.ensures
