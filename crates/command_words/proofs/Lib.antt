@@ -2,3 +2,4 @@ pub mod Numbers
 pub mod NameLists
 pub mod Unrefused
 pub mod Taken
+pub mod Ranges

@@ -1,8 +1,9 @@
 -- The invocation that the words of a command line make.
-use Rattle.std.specs.Prelude.{ℕ, Bool, false, List, [], ◌∷◌, Option, Some, None, if◌then◌else◌, codes, option_map, option_and_then}
+use Rattle.std.specs.Prelude.{◌≤◌, ℕ, Bool, false, List, [], ◌∷◌, Option, Some, None, if◌then◌else◌, codes, option_map, option_and_then}
 use Rattle.std.specs.Option.{option_map_or}
 use Rattle.std.specs.Str.{bytes_eq}
 use Rattle.clap.specs.Words.{Row, Text, all_of, first_of, matches_of, takes}
+use Rattle.cm_text.specs.Layouts.{HasTabWidth}
 use Rattle.cm_text.specs.declared.layout.Layout.{Layout}
 use Rattle.command_words.specs.declared.invocation.Invocation.{Invocation}
 use Rattle.command_words.specs.Shape.{command}
@@ -69,3 +70,9 @@ invocation_in rows = made rows (first_of (codes "transform") rows) (all_of (code
 -- what the words of a command line ask for, where `clap` takes them and each value passes
 abbrev pub invocation_of : List Text → Option Invocation
 invocation_of words = if are_taken words then invocation_in (matches words) else None
+
+-- the numbers of an invocation lie in their ranges
+pub record IsInRanges (i : Invocation) : Type 0 where
+  pub least_fuel : 1 ≤ i.fuel
+  pub most_fuel : i.fuel ≤ 1000000000000
+  pub tab_width : HasTabWidth i.layout

@@ -1,6 +1,6 @@
 //! The words as an invocation.
 
-ghost use Rattle.std.specs.Prelude.{◌≡◌, ◌≢◌, IfOk, None, map, string_bytes};
+ghost use Rattle.std.specs.Prelude.{◌≡◌, ◌≢◌, IfOk, IfSome, None, map, string_bytes};
 ghost use Rattle.clap.specs.Words.{found_of, kind_of, rows_of};
 ghost use Rattle.command_words.specs.Invocations as spec;
 
@@ -57,7 +57,8 @@ fn refused(error: Error) -> Result<Option<Invocation>, AllocError>
 /// What the words after the program's name ask for. `None` says that they are not those of the
 /// command.
 pub fn read_words(alloc: Global, words: &[String]) -> Result<Option<Invocation>, AllocError>
-    ensures { IfOk result (λ made. made ≡ spec.invocation_of (map string_bytes words.now)) }
+    ensures value { IfOk result (λ made. made ≡ spec.invocation_of (map string_bytes words.now)) }
+    ensures ranges { IfOk result (λ made. IfSome made spec.IsInRanges) }
 {
     let command = command(alloc)?;
     match command.try_get_matches_from(words) {
