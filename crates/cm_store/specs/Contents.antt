@@ -1,5 +1,6 @@
 -- What a store holds. A name is a list of bytes.
-use Rattle.std.specs.Prelude.{ℕ, List, refl}
+use Rattle.std.specs.Prelude.{ℕ, List, Option, refl}
+use Rattle.std.specs.Option.{option_map}
 use Rattle.std.specs.Ordering.{nat_cmp}
 use Rattle.std.specs.Cmp.Lexicographic.{slice_cmp}
 use Rattle.std.specs.FinMap.{FinMap, insert, code}
@@ -17,6 +18,10 @@ pub record Contents : Type 0 where
 -- the contents where the name holds these bytes
 abbrev pub with_file : Contents → List ℕ → List ℕ → Contents
 with_file c name bytes = record { files = insert c.files name bytes; unnamed = c.unnamed }
+
+-- the same of contents that may be told
+abbrev pub replaced : Option Contents → List ℕ → List ℕ → Option Contents
+replaced told name bytes = option_map (λ c. with_file c name bytes) told
 
 -- contents are stored as the pair of their maps
 abbrev pub contents_code : Coded Contents

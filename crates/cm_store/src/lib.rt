@@ -8,12 +8,14 @@
 
 mod faults;
 mod files;
+mod folders;
 mod lists;
 mod memory_sink;
 mod memory_store;
 mod output;
 mod sink;
 mod store;
+mod stored;
 #[cfg(test)]
 mod tests;
 
@@ -23,4 +25,4 @@ pub use memory_sink::{MemorySink, SteadySink};
 pub use memory_store::{MemoryStore, SteadyStore};
 pub use output::OutSink;
 pub use sink::{NoMemory, Sink, WriteAnswer};
-pub use store::{ReadAnswer, Store};
+pub use store::{Entry, EntryList, ListAnswer, Listing, ReadAnswer, Store};

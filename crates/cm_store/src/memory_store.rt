@@ -1,49 +1,19 @@
 //! Stores in memory.
 
-ghost use Rattle.std.specs.Prelude.{◌≡◌, ◌≢◌, Err, Some};
-ghost use Rattle.std.specs.List.{position};
-ghost use Rattle.std.specs.Str.{bytes_eq};
-ghost use Rattle.std.specs.FinMap.{get};
-ghost use Rattle.cm_store.specs.Files.{files_of, contents_of};
-ghost use Rattle.cm_store.specs.Reading.{Answers};
+ghost use Rattle.std.specs.Prelude.{◌≡◌, Some};
+ghost use Rattle.cm_store.specs.Files.{contents_of};
 
 use crate::faults::Failures;
-use crate::lists::{Calls, Files, StoredFile, UnnamedList};
-use crate::store::{ReadAnswer, Store};
+use crate::folders::list_name;
+use crate::lists::{Calls, Files, UnnamedList};
+use crate::sink::WriteAnswer;
+use crate::store::{ListAnswer, Listing, ReadAnswer, Store};
+use crate::stored::{read_file, replace_file};
 use std::alloc::Global;
 use std::marker::Model;
 
-// Where the first file of the name stands.
-fn place_of(files: &[StoredFile], name: &str) -> Option<usize>
-    ensures { result ≡ position (λ f. bytes_eq name.now f.name) files.now }
-{
-    files.iter().position(|file| name == file.name.get())
-}
-
-// A read of these files, which never fails.
-fn read_file(
-    alloc: Global,
-    files: &[StoredFile],
-    name: &str,
-    most: u64,
-) -> Result<Vec<u8>, ReadAnswer>
-    ensures answer { Answers (get (files_of files.now) name.now) most result }
-    ensures steady { result ≢ Err ReadAnswer.Failed }
-{
-    let Some(place) = place_of(files, name) else {
-        return Err(ReadAnswer::Missing);
-    };
-    let bytes = files[place].bytes.get();
-    if bytes.len() as u64 > most {
-        return Err(ReadAnswer::TooLong);
-    }
-    match bytes.to_vec(alloc) {
-        Ok(copy) => Ok(copy),
-        Err(_) => Err(ReadAnswer::NoMemory),
-    }
-}
-
-/// A store in memory that fails at listed calls, counted from 0 over all its calls but `faults`.
+/// A store in memory that fails at listed calls, counted from 0 over all its calls but `faults`. Where
+/// it fails it stays as it was.
 #[derive(Debug, Drop)]
 pub struct MemoryStore {
     files: Files,
@@ -91,6 +61,23 @@ impl Store for MemoryStore {
         }
         read_file(alloc, self.files.as_slice(), name, most)
     }
+
+    fn list(&mut self, alloc: Global, name: &str) -> Result<Listing, ListAnswer> {
+        if self.failures.next_fails() {
+            return Err(ListAnswer::Failed);
+        }
+        list_name(alloc, self.files.as_slice(), self.unnamed.as_slice(), name)
+    }
+
+    fn replace(&mut self, alloc: Global, name: &str, bytes: &[u8]) -> Result<(), WriteAnswer> {
+        if self.failures.next_fails() {
+            return Err(WriteAnswer::Failed);
+        }
+        match replace_file(alloc, &mut self.files, name, bytes) {
+            Ok(()) => Ok(()),
+            Err(_) => Err(WriteAnswer::NoMemory),
+        }
+    }
 }
 
 /// A store in memory that never fails.
@@ -131,5 +118,16 @@ impl Store for SteadyStore {
 
     fn read(&mut self, alloc: Global, name: &str, most: u64) -> Result<Vec<u8>, ReadAnswer> {
         read_file(alloc, self.files.as_slice(), name, most)
+    }
+
+    fn list(&mut self, alloc: Global, name: &str) -> Result<Listing, ListAnswer> {
+        list_name(alloc, self.files.as_slice(), self.unnamed.as_slice(), name)
+    }
+
+    fn replace(&mut self, alloc: Global, name: &str, bytes: &[u8]) -> Result<(), WriteAnswer> {
+        match replace_file(alloc, &mut self.files, name, bytes) {
+            Ok(()) => Ok(()),
+            Err(_) => Err(WriteAnswer::NoMemory),
+        }
     }
 }

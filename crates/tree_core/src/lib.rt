@@ -13,6 +13,8 @@ mod lists;
 mod sameness;
 mod scalars;
 mod span;
+#[cfg(test)]
+mod tests;
 mod tree;
 mod units;
 

@@ -114,4 +114,37 @@ impl Scalars {
         };
         Ok(Scalars { held })
     }
+    /// These scalars and then the others.
+    pub fn append(self, alloc: Global, more: Scalars) -> Result<Scalars, AllocError>
+        ensures { OnOk result (result ≡ Ok (self ++ more)) }
+    {
+        match more.held {
+            Held::Nothing => Ok(self),
+            Held::One(a) => self.with(alloc, a),
+            Held::Two(a, b) => self.with(alloc, a)?.with(alloc, b),
+            Held::Many(more) => {
+                let mut all = self.into_items(alloc)?;
+                all.append(more)?;
+                Ok(Scalars {
+                    held: Held::Many(all),
+                })
+            }
+        }
+    }
+
+    fn into_items(self, alloc: Global) -> Result<Items<Scalar>, AllocError>
+        ensures { OnOk result (result ≡ Ok self) }
+    {
+        let mut all = Items::new(alloc);
+        match self.held {
+            Held::Nothing => {}
+            Held::One(a) => all.push(a)?,
+            Held::Two(a, b) => {
+                all.push(a)?;
+                all.push(b)?;
+            }
+            Held::Many(more) => all = more,
+        }
+        Ok(all)
+    }
 }

@@ -1,0 +1,17 @@
+pub mod Turns
+pub mod Highest
+pub mod Ahead
+pub mod Passed
+pub mod Weaker
+pub mod Sound
+pub mod Heights
+pub mod Tokens
+pub mod Forms
+pub mod Bares
+pub mod Reach
+pub mod Complete
+pub mod OneTree
+pub mod Answered
+pub mod Numberings
+pub mod Walked
+pub mod Renumbered

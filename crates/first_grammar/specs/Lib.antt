@@ -1,0 +1,10 @@
+pub mod Table
+pub mod Words
+pub mod Spells
+pub mod Input
+pub mod Reading
+pub mod Growing
+pub mod Nests
+pub mod Parse
+pub mod Numbers
+pub mod Whole

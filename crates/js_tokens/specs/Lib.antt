@@ -1,0 +1,5 @@
+pub mod Characters
+pub mod Pieces
+pub mod Punctuators
+pub mod Texts
+pub mod Words
