@@ -1,0 +1,5 @@
+pub mod Numbers
+pub mod NameLists
+pub mod Unrefused
+pub mod Taken
+pub mod Ranges
