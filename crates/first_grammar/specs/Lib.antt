@@ -7,4 +7,5 @@ pub mod Growing
 pub mod Nests
 pub mod Parse
 pub mod Numbers
+pub mod Shelled
 pub mod Whole

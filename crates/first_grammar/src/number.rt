@@ -4,10 +4,11 @@
 ghost use Rattle.std.specs.Prelude.{◌≡◌, ◌+◌, [], ◌∷◌, ◌++◌, Some, length, map, reverse, IfOk};
 ghost use Rattle.tree_core.specs.View.{syntax, slot_view, place_view, slots_of, places_of};
 ghost use Rattle.first_grammar.specs.Numbers as spec;
+ghost use Rattle.first_grammar.specs.Shelled.{shelled};
 
 use sqlite_items::{Boxed, Items};
 use std::alloc::{AllocError, Global};
-use tree_core::{Place, PlaceName, Slot, Span, Spans, Tree};
+use tree_core::{Comments, Place, PlaceName, Scalars, Slot, Span, Spans, Tree};
 
 /// The most nodes that are numbered.
 const MOST_NODES: usize = 4_194_304;
@@ -60,17 +61,21 @@ fn reversed<T: Drop>(alloc: Global, mut items: Items<T>) -> Result<Items<T>, All
     Ok(all)
 }
 
-/// The tree with its nodes numbered from the next number on. `spans` are their stretches by the
-/// numbers that they had.
-#[cycle(numbering)]
-pub fn number(
-    alloc: Global,
-    spans: &[Span],
-    numbered: &mut Spans,
-    tree: Tree,
-) -> Result<Tree, AllocError>
-    ensures tree { IfOk result (λ t. syntax t ≡ spec.numbered (length numbered.old) (syntax tree)) }
-    ensures spans { IfOk result (λ _. numbered.new ≡ numbered.old ++ spec.spans_of spans.now (syntax tree)) }
+/// What a node has besides its slots and its number.
+#[derive(Drop)]
+pub struct Shell {
+    pub kind: u8,
+    pub scalars: Scalars,
+    pub lead: Comments,
+    pub trail: Comments,
+    pub inner: Comments,
+}
+
+/// A node's shell, its slots and its number. A function of its own, so that no copy of a node lies
+/// on the stack of the recursion.
+#[inline(never)]
+fn opened(tree: Boxed<Tree>) -> (Shell, Items<Slot>, Option<u32>)
+    ensures { syntax tree ≡ shelled result.0 (slots_of (map slot_view result.1)) result.2 }
 {
     let Tree {
         kind,
@@ -80,10 +85,35 @@ pub fn number(
         trail,
         inner,
         from,
-    } = tree;
-    let node = next_number(numbered, span_of(spans, from))?;
-    let slots = number_slots(alloc, spans, numbered, node, slots)?;
-    Ok(Tree {
+    } = tree.into_inner();
+    let shell = Shell {
+        kind,
+        scalars,
+        lead,
+        trail,
+        inner,
+    };
+    (shell, slots, from)
+}
+
+/// The node of the shell with these slots and this number.
+#[inline(never)]
+fn closed(
+    alloc: Global,
+    shell: Shell,
+    slots: Items<Slot>,
+    node: u32,
+) -> Result<Boxed<Tree>, AllocError>
+    ensures { IfOk result (λ t. syntax t ≡ shelled shell (slots_of (map slot_view slots)) (Some node)) }
+{
+    let Shell {
+        kind,
+        scalars,
+        lead,
+        trail,
+        inner,
+    } = shell;
+    let tree = Tree {
         kind,
         scalars,
         slots,
@@ -91,7 +121,40 @@ pub fn number(
         trail,
         inner,
         from: Some(node),
-    })
+    };
+    Ok(Boxed::new(alloc, tree)?)
+}
+
+/// The tree with its nodes numbered from the next number on. `spans` are their stretches by the
+/// numbers that they had.
+pub fn number(
+    alloc: Global,
+    spans: &[Span],
+    numbered: &mut Spans,
+    tree: Tree,
+) -> Result<Tree, AllocError>
+    ensures tree { IfOk result (λ t. syntax t ≡ spec.numbered (length numbered.old) (syntax tree)) }
+    ensures spans { IfOk result (λ _. numbered.new ≡ numbered.old ++ spec.spans_of spans.now (syntax tree)) }
+{
+    let tree = number_node(alloc, spans, numbered, Boxed::new(alloc, tree)?)?;
+    Ok(tree.into_inner())
+}
+
+/// The node, with all below it.
+#[cycle(numbering)]
+fn number_node(
+    alloc: Global,
+    spans: &[Span],
+    numbered: &mut Spans,
+    tree: Boxed<Tree>,
+) -> Result<Boxed<Tree>, AllocError>
+    ensures tree { IfOk result (λ t. syntax t ≡ spec.numbered (length numbered.old) (syntax tree)) }
+    ensures spans { IfOk result (λ _. numbered.new ≡ numbered.old ++ spec.spans_of spans.now (syntax tree)) }
+{
+    let (shell, slots, from) = opened(tree);
+    let node = next_number(numbered, span_of(spans, from))?;
+    let slots = number_slots(alloc, spans, numbered, node, slots)?;
+    closed(alloc, shell, slots, node)
 }
 
 /// The slots of the node.
@@ -184,10 +247,7 @@ fn number_place(
 {
     let node = match place.node {
         None => None,
-        Some(node) => {
-            let tree = number(alloc, spans, numbered, node.into_inner())?;
-            Some(Boxed::new(alloc, tree)?)
-        }
+        Some(node) => Some(number_node(alloc, spans, numbered, node)?),
     };
     Ok(Place {
         name: Some(name),

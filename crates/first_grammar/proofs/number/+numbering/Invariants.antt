@@ -4,8 +4,8 @@ use Rattle.first_grammar.specs.Numbers.{count, slots_count, places_count, spot_c
 use Rattle.first_grammar.proofs.Walked.{all_slots, all_places, SlotsWalked, PlacesWalked}
 use Rattle.first_grammar.proofs.number.+numbering.Given as goal
 
-abbrev pub decreases-number : goal.decreases-number
-decreases-number l = 5 * count (syntax l.tree)
+abbrev pub decreases-number_node : goal.decreases-number_node
+decreases-number_node l = 5 * count (syntax l.tree)
 
 abbrev pub decreases-number_slots : goal.decreases-number_slots
 decreases-number_slots l = 5 * slots_count (all_slots l.slots) + 4
