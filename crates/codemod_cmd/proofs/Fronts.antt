@@ -1,6 +1,6 @@
 -- Bytes that grow by a front of a text, and then by more.
-use Rattle.std.proofs.Common.{◌≡◌, ℕ, List, [], ◌++◌, Some, None, Ok, Err, refl, sym, ap, ◌∙◌, append_assoc, append-nil}
-use Rattle.std.specs.Prelude.{Option, Result, OnErr, OnOk}
+use Rattle.std.proofs.Common.{ℕ, List, ◌++◌, Some, None, Ok, Err, sym, ap, ◌∙◌, append_assoc}
+use Rattle.std.specs.Prelude.{Option, Result, OnErr}
 use Rattle.std.specs.Io.KnownBytes.{Appends}
 use Rattle.cm_store.specs.Writing.{AppendsFront}
 

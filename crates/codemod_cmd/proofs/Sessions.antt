@@ -1,5 +1,5 @@
 -- From the parts of a run to the whole.
-use Rattle.std.proofs.Common.{◌≡◌, ◌≤◌, ℕ, ◌+◌, ◌-◌, ◌^◌, List, Some, None, inl, inr, refl, arith, min}
+use Rattle.std.proofs.Common.{◌≤◌, ℕ, List, inl, inr, refl, arith}
 use Rattle.std.specs.Prelude.{Option}
 use Rattle.std.specs.declared.string.String.{String}
 use Rattle.std.specs.declared.alloc.Global.{Global}

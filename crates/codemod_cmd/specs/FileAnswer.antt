@@ -14,7 +14,7 @@ use Rattle.first_rename.specs.Edits.{Keeps}
 use Rattle.codemod_cmd.specs.declared.answer.SyntaxKind.TheVariants.{Unexpected, Nesting}
 use Rattle.codemod_cmd.specs.declared.answer.FaultKind.TheVariants.{ListLong}
 use Rattle.codemod_cmd.specs.declared.answer.RowError.{RowError}
-use Rattle.codemod_cmd.specs.declared.answer.RowError.TheVariants.{Missing, ReadFault, TooLong, NotUtf8, Syntax, Script, Form}
+use Rattle.codemod_cmd.specs.declared.answer.RowError.TheVariants.{TooLong, NotUtf8, Syntax, Script}
 use Rattle.codemod_cmd.specs.declared.answer.RowAnswer.{RowAnswer}
 use Rattle.codemod_cmd.specs.declared.answer.RowAnswer.TheVariants.{Ok, Unmodified, Skipped, Error}
 

@@ -1,5 +1,5 @@
 -- What a command comes to before it is written.
-use Rattle.std.specs.Prelude.{◌≡◌, ℕ, List, Option}
+use Rattle.std.specs.Prelude.{ℕ, List, Option}
 use Rattle.cm_store.specs.Contents.{Contents}
 use Rattle.codemod_cmd.specs.Texts.{script_line}
 use Rattle.codemod_cmd.specs.Session.{Asks, IsNotRun, IsRow, all_shown}

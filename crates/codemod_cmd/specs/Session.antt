@@ -16,12 +16,12 @@ use Rattle.codemod_cmd.specs.FileAnswer.{FileAnswer}
 use Rattle.codemod_cmd.specs.Counting.{no_counts, counted}
 use Rattle.codemod_cmd.specs.Texts.{usage_line, script_line, row_line, printed, summary_lines}
 use Rattle.codemod_cmd.specs.declared.status.Status.{Status}
-use Rattle.codemod_cmd.specs.declared.status.Status.TheVariants.{Done, HadErrors, Usage, NoScript, NoMemory, OutputFault}
+use Rattle.codemod_cmd.specs.declared.status.Status.TheVariants.{Done, Usage, NoScript, NoMemory, OutputFault}
 use Rattle.codemod_cmd.specs.declared.reading.Unread.{Unread}
 use Rattle.codemod_cmd.specs.declared.reading.Unread.TheVariants.{Refused, NoMemory as NoMemoryUnread}
 use Rattle.codemod_cmd.specs.declared.answer.FormKind.TheVariants.{Subset}
 use Rattle.codemod_cmd.specs.declared.answer.RowError.{RowError}
-use Rattle.codemod_cmd.specs.declared.answer.RowError.TheVariants.{Missing, ReadFault, TooLong, NotUtf8, Syntax, Script, Form}
+use Rattle.codemod_cmd.specs.declared.answer.RowError.TheVariants.{Missing, ReadFault, TooLong, Form}
 use Rattle.codemod_cmd.specs.declared.answer.RowAnswer.{RowAnswer}
 use Rattle.codemod_cmd.specs.declared.answer.RowAnswer.TheVariants as row
 

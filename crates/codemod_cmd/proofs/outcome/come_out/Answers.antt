@@ -1,4 +1,4 @@
-use Rattle.std.proofs.Common.{rules, ◌≡◌, ◌≤◌, subst}
+use Rattle.std.proofs.Common.{subst}
 use Rattle.codemod_cmd.specs.Script.{IsScript}
 use Rattle.codemod_cmd.specs.Session.{IsRow}
 use Rattle.codemod_cmd.proofs.Sessions.{row_earlier}

@@ -1,9 +1,9 @@
-use Rattle.std.proofs.Common.{rules, ◌≡◌, subst, refl, inl, inr, OnErr}
+use Rattle.std.proofs.Common.{refl, inr}
 use Rattle.std.proofs.lemmas.Result.{on_err_weaker}
 use Rattle.cm_store.specs.Writing.{AppendsFront}
 use Rattle.codemod_cmd.specs.Texts.{usage_line}
-use Rattle.codemod_cmd.specs.Outcomes.{IsOutcome, told, status_of}
-use Rattle.codemod_cmd.specs.Session.{Outside, outside, Stops}
+use Rattle.codemod_cmd.specs.Outcomes.{told, status_of}
+use Rattle.codemod_cmd.specs.Session.{outside, Stops}
 use Rattle.codemod_cmd.specs.declared.status.Status.TheVariants.{Usage}
 use Rattle.codemod_cmd.proofs.Fronts.{on_err}
 use Rattle.codemod_cmd.proofs.Sessions.{writes_told}

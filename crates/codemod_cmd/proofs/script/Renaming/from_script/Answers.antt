@@ -1,7 +1,7 @@
-use Rattle.std.proofs.Common.{rules, ◌≡◌, ℕ, List, subst, sym, ap, ◌∙◌, ◌++◌}
+use Rattle.std.proofs.Common.{subst, sym, ◌∙◌}
 use Rattle.std.proofs.lemmas.List.{append_cancel_left}
 use Rattle.first_rename.specs.Names.{IsPlainName}
-use Rattle.codemod_cmd.specs.Script.{front, middle, back, IsEnd, IsScript, IsNoScript}
+use Rattle.codemod_cmd.specs.Script.{front, middle, back, IsEnd}
 use Rattle.codemod_cmd.proofs.Scripts.{from_front, from_old, from_new, joined}
 use Rattle.codemod_cmd.proofs.script.Renaming.from_script.Goals as goal
 

@@ -1,5 +1,4 @@
-use Rattle.std.proofs.Common.{rules, ◌≡◌, ◌∷◌, [], ℕ, List, length, arith, ap, ◌∙◌, sym, true, codes, string_bytes, refl}
-use Rattle.std.specs.Str.{bytes_eq}
+use Rattle.std.proofs.Common.{rules, ◌≡◌, length, arith, ap, ◌∙◌, sym, codes, string_bytes, refl}
 use Rattle.codemod_cmd.specs.Words.{texts}
 use Rattle.codemod_cmd.proofs.Lists.{five_items, same_bytes}
 use Rattle.codemod_cmd.proofs.words.Command.from_words.Goals as goal
