@@ -1,6 +1,6 @@
 //! What stands in a folder of a list of stored files.
 
-ghost use Rattle.std.specs.Prelude.{◌≡◌, ◌≢◌, ℕ, ◌++◌, ◌&&◌, ◌||◌, not, nat_eq, IsTrue, ◌↔◌, List, [], length, drop, map, All, Ok, Err, None, Some, OnOk, IfOk, IfSome, IfNone, if◌then◌else◌, unwrap_or, is_none, string_bytes, take};
+ghost use Rattle.std.specs.Prelude.{◌≡◌, ◌≢◌, ◌↔◌, ℕ, ◌++◌, ◌||◌, IsTrue, List, length, drop, map, All, Err, None, Some, OnOk, IfOk, if◌then◌else◌, unwrap_or, is_none, string_bytes};
 ghost use Rattle.std.specs.Option.{option_map, option_copied};
 ghost use Rattle.std.specs.List.{list_any, find};
 ghost use Rattle.std.specs.Str.{bytes_eq};
@@ -10,7 +10,6 @@ ghost use Rattle.std.specs.Cmp.Lexicographic.{slice_cmp};
 ghost use Rattle.std.specs.FinMap.{get};
 ghost use Rattle.std.specs.BTreeSet.{contains_text};
 ghost use Rattle.cm_store.specs.Below.{is_below, has_part};
-ghost use Rattle.cm_store.specs.Contents.{Contents};
 ghost use Rattle.cm_store.specs.Files.{files_of, counts_of, contents_of};
 ghost use Rattle.cm_store.specs.Listing.{Lists, HasEntries, IsFolder, front_of, part_of};
 
