@@ -1,5 +1,5 @@
 -- Bytes that grow by a front of a text, and then by more.
-use Rattle.std.proofs.Common.{ℕ, List, ◌++◌, Some, None, Ok, Err, sym, ap, ◌∙◌, append_assoc}
+use Rattle.std.proofs.Common.{◌≡◌, ℕ, List, [], ◌++◌, Some, None, Ok, Err, refl, sym, ap, subst, ◌∙◌, append_assoc, append-nil}
 use Rattle.std.specs.Prelude.{Option, Result, OnErr}
 use Rattle.std.specs.Io.KnownBytes.{Appends}
 use Rattle.cm_store.specs.Writing.{AppendsFront}
@@ -25,3 +25,11 @@ front_more old new a b h = (h.0, h.1 ++ b, ap (λ x. x ++ b) h.2 ∙ append_asso
 -- and so is a text with a front of what follows it
 pub front_after : (old mid new : Option (List ℕ)) (a b : List ℕ) → Appends old mid a → AppendsFront mid new b → AppendsFront old new (a ++ b)
 front_after old mid new a b p h = (a ++ h.0, h.1, ap (λ x. a ++ x) h.2 ∙ sym (append_assoc a h.0 h.1), appends_both old mid new a h.0 p h.3)
+
+pub nothing_appended : (a : Option (List ℕ)) → Appends a a []
+nothing_appended None = tt
+nothing_appended (Some x) = sym (append-nil x)
+
+-- nothing is a front of each text
+pub front_none : (old new : Option (List ℕ)) (a : List ℕ) → new ≡ old → AppendsFront old new a
+front_none old new a e = ([], a, refl, subst (λ t. Appends old t []) (sym e) (nothing_appended old))

@@ -1,4 +1,9 @@
+pub mod Closing
+pub mod Endings
+pub mod Entries
 pub mod Fronts
-pub mod Lists
+pub mod Going
+pub mod Kept
+pub mod Rowed
 pub mod Scripts
-pub mod Sessions
+pub mod Written

@@ -11,12 +11,12 @@ use Rattle.first_grammar.specs.Reading.{max_nesting}
 use Rattle.first_grammar.specs.Numbers.{numbered}
 use Rattle.first_rename.specs.Names.{renamed, count_of}
 use Rattle.first_rename.specs.Edits.{Keeps}
-use Rattle.codemod_cmd.specs.declared.answer.SyntaxKind.TheVariants.{Unexpected, Nesting}
-use Rattle.codemod_cmd.specs.declared.answer.FaultKind.TheVariants.{ListLong}
-use Rattle.codemod_cmd.specs.declared.answer.RowError.{RowError}
-use Rattle.codemod_cmd.specs.declared.answer.RowError.TheVariants.{TooLong, NotUtf8, Syntax, Script}
-use Rattle.codemod_cmd.specs.declared.answer.RowAnswer.{RowAnswer}
-use Rattle.codemod_cmd.specs.declared.answer.RowAnswer.TheVariants.{Ok, Unmodified, Skipped, Error}
+use Rattle.run_report.specs.declared.answer.SyntaxKind.TheVariants.{Unexpected, Nesting}
+use Rattle.run_report.specs.declared.answer.FaultKind.TheVariants.{ListLong}
+use Rattle.run_report.specs.declared.answer.RowError.{RowError}
+use Rattle.run_report.specs.declared.answer.RowError.TheVariants.{TooLong, NotUtf8, Syntax, Script}
+use Rattle.run_report.specs.declared.answer.RowAnswer.{RowAnswer}
+use Rattle.run_report.specs.declared.answer.RowAnswer.TheVariants.{Ok, Unmodified, Skipped, Error}
 
 -- the bytes can be a source
 pub record IsSource (s : List ℕ) : Type 0 where

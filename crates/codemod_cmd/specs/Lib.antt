@@ -1,8 +1,8 @@
-pub mod Counting
 pub mod FileAnswer
-pub mod Outcomes
+pub mod FileRows
+pub mod Folders
+pub mod Rows
 pub mod Script
 pub mod Session
+pub mod Sights
 pub mod Statuses
-pub mod Texts
-pub mod Words

@@ -1,70 +1,29 @@
--- What a run reads, writes and answers.
-use Rattle.std.specs.Prelude.{◌≡◌, ◌⊎◌, ℕ, ◌<◌, ◌≤◌, List, ◌++◌, length, Option, Some, None, Result, Ok, Err, IfSome}
-use Rattle.std.specs.Option.{IsSomeAnd}
+-- What a run reads, writes and leaves.
+use Rattle.std.specs.Prelude.{◌≡◌, ◌⊎◌, ℕ, ◌<◌, ◌≤◌, Bool, if◌then◌else◌, ◌&&◌, List, [], ◌∷◌, ◌++◌, map, length, Option, Some, None, Result, Ok, Err, codes, string_bytes}
 use Rattle.std.specs.FinMap.{get}
 use Rattle.std.specs.Io.KnownBytes.{Appends}
 use Rattle.std.specs.declared.string.String.{String}
 use Rattle.std.specs.declared.alloc.Global.{Global}
-use Rattle.std.specs.declared.vec.Vec.{Vec}
 use Rattle.cm_store.specs.Contents.{Contents}
-use Rattle.cm_store.specs.Faults.{Rose}
 use Rattle.cm_store.specs.Writing.{AppendsFront}
 use Rattle.cm_text.specs.declared.source.TheConstants.{MAX_LENGTH}
-use Rattle.codemod_cmd.specs.Words.{IsCommand, IsOther}
+use Rattle.command_words.specs.Invocations.{invocation_of}
+use Rattle.command_words.specs.declared.invocation.Invocation.{Invocation}
+use Rattle.run_report.specs.Texts.{script_line, summary_lines}
+use Rattle.run_report.specs.Counting.{no_counts, counted}
+use Rattle.run_report.specs.declared.counts.Counts.{Counts}
+use Rattle.run_report.specs.declared.answer.RowAnswer.{RowAnswer}
+use Rattle.run_report.specs.declared.answer.FormKind.TheVariants.{Subset}
+use Rattle.run_report.specs.declared.answer.RowError.{RowError}
+use Rattle.run_report.specs.declared.answer.RowError.TheVariants.{Form}
+use Rattle.codemod_cmd.specs.Rows.{Row, answer_of, HasBytes, HasNone, IsRow, leaves, after, faults_in, row_faults, faults_of, Rises, shown, shown_all, counted_all, has_error}
+use Rattle.codemod_cmd.specs.Folders.{Place, places, named, Goes}
 use Rattle.codemod_cmd.specs.Script.{IsScript, IsNoScript}
 use Rattle.codemod_cmd.specs.FileAnswer.{FileAnswer}
-use Rattle.codemod_cmd.specs.Counting.{no_counts, counted}
-use Rattle.codemod_cmd.specs.Texts.{usage_line, script_line, row_line, printed, summary_lines}
 use Rattle.codemod_cmd.specs.declared.status.Status.{Status}
-use Rattle.codemod_cmd.specs.declared.status.Status.TheVariants.{Done, Usage, NoScript, NoMemory, OutputFault}
-use Rattle.codemod_cmd.specs.declared.reading.Unread.{Unread}
-use Rattle.codemod_cmd.specs.declared.reading.Unread.TheVariants.{Refused, NoMemory as NoMemoryUnread}
-use Rattle.codemod_cmd.specs.declared.answer.FormKind.TheVariants.{Subset}
-use Rattle.codemod_cmd.specs.declared.answer.RowError.{RowError}
-use Rattle.codemod_cmd.specs.declared.answer.RowError.TheVariants.{Missing, ReadFault, TooLong, Form}
-use Rattle.codemod_cmd.specs.declared.answer.RowAnswer.{RowAnswer}
-use Rattle.codemod_cmd.specs.declared.answer.RowAnswer.TheVariants as row
-
--- the name has these bytes, no more than may be read
-abbrev pub HasBytes : Option Contents → List ℕ → List ℕ → Type 0
-HasBytes None name bytes = Unit {0}
-HasBytes (Some c) name bytes = (get c.files name ≡ Some bytes) × (length bytes ≤ MAX_LENGTH)
-
--- the name has no bytes that may be read, for this reason. A failed read is one that the store counted
-abbrev pub HasNone : Option Contents → ℕ → ℕ → List ℕ → RowError → Type 0
-HasNone held before now name Missing = IfSome held (λ c. get c.files name ≡ None)
-HasNone held before now name TooLong = IfSome held (λ c. IsSomeAnd (get c.files name) (λ bytes. MAX_LENGTH < length bytes))
-HasNone held before now name ReadFault = Rose before now
-HasNone held before now name _ = ⊥
-
--- what is answered to a read of the name
-abbrev pub Loads : Option Contents → ℕ → ℕ → List ℕ → Result (Vec ℕ Global) Unread → Type 0
-Loads held before now name (Ok bytes) = HasBytes held name bytes.items
-Loads held before now name (Err (Refused error)) = HasNone held before now name error
-Loads held before now name (Err NoMemoryUnread) = Unit {0}
-
--- the script of this name gives each identifier `old` the name `new`
-abbrev pub Asks : Option Contents → List ℕ → List ℕ → List ℕ → Type 0
-Asks held script old new = (bytes : List ℕ) × HasBytes held script bytes × IsScript old new bytes
-
--- the script of this name is not run, for this reason
-abbrev pub IsNotRun : Option Contents → ℕ → ℕ → List ℕ → RowError → Type 0
-IsNotRun held before now script (Form at Subset) = (bytes : List ℕ) × HasBytes held script bytes × IsNoScript bytes × (at ≡ 0)
-IsNotRun held before now script error = HasNone held before now script error
-
--- the row of a file, and the text that the script makes of it
-abbrev pub IsRow : Option Contents → ℕ → ℕ → List ℕ → List ℕ → List ℕ → RowAnswer → List ℕ → Type 0
-IsRow held before now old new name answer out =
-    ((bytes : List ℕ) × HasBytes held name bytes × FileAnswer old new bytes answer out) ⊎ ((error : RowError) × (answer ≡ row.Error error) × HasNone held before now name error)
-
--- a row, and the text where there is a new one
-abbrev pub shown : List ℕ → RowAnswer → List ℕ → List ℕ
-shown name row.Ok out = row_line name row.Ok ++ printed out
-shown name answer out = row_line name answer
-
--- these and the summary
-abbrev pub all_shown : List ℕ → RowAnswer → List ℕ → List ℕ
-all_shown name answer out = shown name answer out ++ summary_lines (counted no_counts answer)
+use Rattle.codemod_cmd.specs.declared.status.Status.TheVariants.{Done, HadErrors, Usage, NoScript, NoMemory, OutputFault}
+use Rattle.codemod_cmd.specs.declared.stop.Stop.{Stop}
+use Rattle.codemod_cmd.specs.declared.stop.Stop.TheVariants.{NoMemory as OutOfMemory, OutputFault as OutputFails}
 
 -- the outside at one moment: what the store holds and how often it failed, and the bytes that the sink took. Contents are there where store and sink tell them
 pub record Outside : Type 0 where
@@ -75,32 +34,117 @@ pub record Outside : Type 0 where
 abbrev pub outside : Option Contents → ℕ → Option (List ℕ) → Outside
 outside held failed taken = record { held = held; failed = failed; taken = taken }
 
--- what a run of the script over the file writes, and the status that it then ends with
-abbrev pub ScriptWrites : List ℕ → List ℕ → Option Contents → ℕ → ℕ → List ℕ → Status → Type 0
-ScriptWrites script file held before now text NoScript = (error : RowError) × IsNotRun held before now script error × (text ≡ script_line script error)
-ScriptWrites script file held before now text Done =
-    (old new out : List ℕ) × (answer : RowAnswer) × Asks held script old new × IsRow held before now old new file answer out × (text ≡ all_shown file answer out)
-ScriptWrites script file held before now text _ = ⊥
+-- nothing is changed or written
+pub record Stays (w v : Outside) : Type 0 where
+  pub held : v.held ≡ w.held
+  pub failed : w.failed ≤ v.failed
+  pub taken : v.taken ≡ w.taken
 
--- what a run of the words writes, and the status that it then ends with
-abbrev pub Writes : List (String Global) → Outside → Outside → List ℕ → Status → Type 0
-Writes words before after text Usage = IsOther words × (text ≡ usage_line)
-Writes words before after text status = (script file : List ℕ) × IsCommand words script file × ScriptWrites script file before.held before.failed after.failed text status
+-- one row of a file, but for what is written of it
+pub record Passes (says : List ℕ → RowAnswer → List ℕ → Type 0) (dry : Bool) (name : List ℕ) (row : Row) (w v : Outside) : Type 0 where
+  pub is : IsRow says dry w.held name row
+  pub held : v.held ≡ leaves dry w.held name row
+  pub failed : Rises (row_faults row) w.failed v.failed
+
+-- how the row of a file ends
+abbrev pub RowEnds : (List ℕ → RowAnswer → List ℕ → Type 0) → Bool → Bool → List ℕ → Outside → Outside → Result RowAnswer Stop → Type 0
+RowEnds says dry print name w v (Ok answer) = (row : Row) × (answer_of row ≡ answer) × Passes says dry name row w v × Appends w.taken v.taken (shown print name row)
+RowEnds says dry print name w v (Err OutputFails) = (row : Row) × Passes says dry name row w v × AppendsFront w.taken v.taken (shown print name row)
+RowEnds says dry print name w v (Err OutOfMemory) = Stays w v
+
+-- one row of a file that is written and counted
+abbrev pub FileTells : (List ℕ → RowAnswer → List ℕ → Type 0) → Invocation → List ℕ → Counts → Counts → Outside → Outside → Type 0
+FileTells says command name c d w v =
+    (row : Row) × Passes says command.dry name row w v × Appends w.taken v.taken (shown command.print name row) × (d ≡ counted c (answer_of row))
+
+-- one row of a file at which a run stops
+abbrev pub FileBreaks : (List ℕ → RowAnswer → List ℕ → Type 0) → Invocation → List ℕ → Outside → Outside → Type 0
+FileBreaks says command name w v = Stays w v ⊎ ((row : Row) × Passes says command.dry name row w v × AppendsFront w.taken v.taken (shown command.print name row))
+
+-- the rows of places, as far as those that are still to come, but for what is written of them
+pub record Runs (says : List ℕ → RowAnswer → List ℕ → Type 0) (command : Invocation) (ps rest : List Place) (rows : List (List ℕ × Row)) (w v : Outside) : Type 0 where
+  pub goes : Goes says command ps w.held rows rest
+  pub held : v.held ≡ after command.dry w.held rows
+  pub failed : Rises (faults_of rows) w.failed v.failed
+
+-- they are written and counted
+abbrev pub Tells : (List ℕ → RowAnswer → List ℕ → Type 0) → Invocation → List Place → List Place → Counts → Counts → Outside → Outside → Type 0
+Tells says command ps rest c d w v =
+    (rows : List (List ℕ × Row)) × Runs says command ps rest rows w v × Appends w.taken v.taken (shown_all command.print rows) × (d ≡ counted_all c rows)
+
+-- a front of them is written
+abbrev pub Breaks : (List ℕ → RowAnswer → List ℕ → Type 0) → Invocation → List Place → Outside → Outside → Type 0
+Breaks says command ps w v =
+    (rows : List (List ℕ × Row)) × (rest : List Place) × Runs says command ps rest rows w v × AppendsFront w.taken v.taken (shown_all command.print rows)
+
+-- the places of the words
+abbrev pub first_places : Invocation → List Place
+first_places command = places 0 (named command.files)
+
+-- the rows and, where none is still to come, the summary
+abbrev pub told : Invocation → List Place → List (List ℕ × Row) → List ℕ
+told command [] rows = shown_all command.print rows ++ summary_lines (counted_all no_counts rows)
+told command (p ∷ rest) rows = shown_all command.print rows
+
+-- some row is an error, and the words ask to be told so
+abbrev pub status_of : Invocation → List (List ℕ × Row) → Status
+status_of command rows = if command.fail_on_error && has_error rows then HadErrors else Done
+
+-- all rows and the summary
+abbrev pub Completes : (List ℕ → RowAnswer → List ℕ → Type 0) → Invocation → Outside → Outside → Status → Type 0
+Completes says command w v status =
+    (rows : List (List ℕ × Row)) × Runs says command (first_places command) [] rows w v × Appends w.taken v.taken (told command [] rows) × (status ≡ status_of command rows)
+
+-- some rows, and a front of what is written of them
+abbrev pub Halts : (List ℕ → RowAnswer → List ℕ → Type 0) → Invocation → Outside → Outside → Type 0
+Halts says command w v = (rows : List (List ℕ × Row)) × (rest : List Place) × Runs says command (first_places command) rest rows w v × AppendsFront w.taken v.taken (told command rest rows)
+
+-- what the words ask for, where they are those of the command
+abbrev pub asked : List (String Global) → Option Invocation
+asked words = invocation_of (map string_bytes words)
+
+unfoldable pub usage_line : List ℕ
+usage_line = codes
+    "usage: codemod -t SCRIPT [-d] [-p] [--fuel N] [--extensions LIST] [--fail-on-error] [--tab-width N] [--use-tabs] [--quote Q] [--trailing-comma] [--no-curly-spacing] [--arrow-parens] FILE...\n"
+
+-- the script of this name gives each identifier `old` the name `new`
+abbrev pub Asks : Option Contents → List ℕ → List ℕ → List ℕ → Type 0
+Asks held script old new = (bytes : List ℕ) × HasBytes held script bytes × IsScript old new bytes
+
+-- the script of this name is not run, for this reason. A failed read is one that the store counted
+abbrev pub IsNotRun : Option Contents → ℕ → ℕ → List ℕ → RowError → Type 0
+IsNotRun held before now script (Form at Subset) = (bytes : List ℕ) × HasBytes held script bytes × IsNoScript bytes × (at ≡ 0)
+IsNotRun held before now script error = HasNone held script error × Rises (faults_in error) before now
+
+-- a run that writes this line, no row and no file
+abbrev pub WritesLine : List (String Global) → Outside → Outside → List ℕ → Status → Type 0
+WritesLine words w v line Usage = (asked words ≡ None) × (v.held ≡ w.held) × (line ≡ usage_line)
+WritesLine words w v line NoScript =
+    (command : Invocation) × (error : RowError) × (asked words ≡ Some command) × IsNotRun w.held w.failed v.failed command.script error × (v.held ≡ w.held) × (line ≡ script_line command.script error)
+WritesLine words w v line _ = ⊥
+
+-- the words ask for a run of this script
+abbrev pub RunsScript : List (String Global) → Outside → Invocation → List ℕ → List ℕ → Type 0
+RunsScript words w command old new = (asked words ≡ Some command) × Asks w.held command.script old new
 
 -- a run that wrote all of its text
 abbrev pub Finishes : List (String Global) → Outside → Outside → Status → Type 0
-Finishes words before after status = (text : List ℕ) × Writes words before after text status × Appends before.taken after.taken text
+Finishes words w v status =
+    ((line : List ℕ) × WritesLine words w v line status × Appends w.taken v.taken line)
+    ⊎ ((command : Invocation) × (old : List ℕ) × (new : List ℕ) × RunsScript words w command old new × Completes (FileAnswer old new) command w v status)
 
--- a run that stopped before: it wrote nothing, or a front of such a text
+-- a run that stopped before: it did nothing, or wrote a front of its line, or the rows of some names and a front of what is written of them
 abbrev pub Stops : List (String Global) → Outside → Outside → Type 0
-Stops words before after =
-    (after.taken ≡ before.taken) ⊎ ((text : List ℕ) × (status : Status) × Writes words before after text status × AppendsFront before.taken after.taken text)
+Stops words w v =
+    Stays w v
+    ⊎ ((line : List ℕ) × (status : Status) × WritesLine words w v line status × AppendsFront w.taken v.taken line)
+    ⊎ ((command : Invocation) × (old : List ℕ) × (new : List ℕ) × RunsScript words w command old new × Halts (FileAnswer old new) command w v)
 
 -- how a run ends
 abbrev pub Ends : List (String Global) → Outside → Outside → Status → Type 0
-Ends words before after NoMemory = Stops words before after
-Ends words before after OutputFault = Stops words before after
-Ends words before after status = Finishes words before after status
+Ends words w v NoMemory = Stops words w v
+Ends words w v OutputFault = Stops words w v
+Ends words w v status = Finishes words w v status
 
 -- the run ends with this status, unless it stopped before
 abbrev pub EndsBy : Status → Status → Type 0

@@ -1,11 +1,11 @@
 //! Reads a name from the store.
 
 ghost use Rattle.std.specs.Prelude.{◌≡◌, ◌≤◌};
-ghost use Rattle.codemod_cmd.specs.Session.{Loads};
+ghost use Rattle.codemod_cmd.specs.Rows.{Loads};
 
-use crate::answer::RowError;
 use cm_store::{ReadAnswer, Store};
 use cm_text::MAX_LENGTH;
+use run_report::RowError;
 use std::alloc::Global;
 
 /// Why there are no bytes.

@@ -1,43 +1,48 @@
 //! The run of the command.
 
-ghost use Rattle.std.specs.Prelude.{◌≡◌, ◌≢◌, ◌≤◌, ℕ, List, IfOk, OnErr, IsErrOf};
+ghost use Rattle.std.specs.Prelude.{◌≡◌, ◌≤◌, true, None, Some, IfOk, OnErr, IsErrOf};
 ghost use Rattle.std.specs.Io.KnownBytes.{Appends};
 ghost use Rattle.cm_store.specs.Faults.{Rose};
 ghost use Rattle.cm_store.specs.Writing.{AppendsFront};
-ghost use Rattle.codemod_cmd.specs.Words.{IsOther, IsCommand};
-ghost use Rattle.codemod_cmd.specs.Outcomes.{told, status_of};
-ghost use Rattle.codemod_cmd.specs.Session.{outside, Finishes, Stops, Ends, EndsBy, LacksScript};
+ghost use Rattle.command_words.specs.declared.invocation.Invocation.{Invocation};
+ghost use Rattle.run_report.specs.Texts.{script_line};
+ghost use Rattle.codemod_cmd.specs.Session.{outside, asked, usage_line, Finishes, Stops, Ends, EndsBy, LacksScript};
 
-use crate::outcome::{Outcome, come_out};
+use crate::job::Job;
+use crate::reading::{Unread, load};
+use crate::script::Renaming;
+use crate::session::run_job;
 use crate::status::Status;
 use crate::stop::Stop;
-use crate::texts::USAGE;
-use crate::words::Command;
-use crate::writing::{say, say_refused, say_row};
+use crate::writing::say;
 use cm_store::{Sink, Store};
+use command_words::{USAGE, read_words};
+use run_report::{FormKind, RowError, script_text};
 use std::alloc::Global;
 
-// Writes what the command comes to.
-fn tell<O: Sink>(
+#[tactic(auto, unfolding(crate::specs::Session::usage_line))]
+// The bytes that are written where the words are not those of the command.
+fn usage() -> &'static [u8]
+    ensures { result.now ≡ usage_line }
+{
+    USAGE.as_bytes()
+}
+
+// Writes why the script is not run.
+fn refuse_script<O: Sink>(
     alloc: Global,
-    command: &Command,
-    outcome: &Outcome,
     out: &mut O,
+    name: &str,
+    error: RowError,
 ) -> Result<Status, Stop>
-    ensures all { IfOk result (λ status. (status ≡ status_of outcome.now) × Appends (O.taken_bytes out.old) (O.taken_bytes out.new) (told command.now.script.now command.now.file.now outcome.now)) }
-    ensures front { OnErr result (AppendsFront (O.taken_bytes out.old) (O.taken_bytes out.new) (told command.now.script.now command.now.file.now outcome.now)) }
+    ensures all { IfOk result (λ status. (status ≡ Status.NoScript) × Appends (O.taken_bytes out.old) (O.taken_bytes out.new) (script_line name.now error)) }
+    ensures front { OnErr result (AppendsFront (O.taken_bytes out.old) (O.taken_bytes out.new) (script_line name.now error)) }
+    ensures later { O.fault_count out.old ≤ O.fault_count out.new }
     ensures fault { IsErrOf result Stop.OutputFault → Rose (O.fault_count out.old) (O.fault_count out.new) }
 {
-    match outcome {
-        Outcome::Refused(error) => {
-            say_refused(alloc, out, command.script, *error)?;
-            Ok(Status::NoScript)
-        }
-        Outcome::Made(row) => {
-            say_row(alloc, out, command.file, row)?;
-            Ok(Status::Done)
-        }
-    }
+    let line = script_text(alloc, name, error)?;
+    say(out, &line)?;
+    Ok(Status::NoScript)
 }
 
 // Runs the words to their end, or tells why that is not reached.
@@ -47,23 +52,48 @@ fn run_words<S: Store, O: Sink>(
     store: &mut S,
     out: &mut O,
 ) -> Result<Status, Stop>
-    ensures ends { IfOk result (Finishes words.now (outside (S.contents store.old) (S.fault_count store.old) (O.taken_bytes out.old)) (outside (S.contents store.new) (S.fault_count store.new) (O.taken_bytes out.new))) }
-    ensures stops { OnErr result (Stops words.now (outside (S.contents store.old) (S.fault_count store.old) (O.taken_bytes out.old)) (outside (S.contents store.new) (S.fault_count store.new) (O.taken_bytes out.new))) }
-    ensures kept { S.contents store.new ≡ S.contents store.old }
+    ensures finishes { IfOk result (Finishes words.now
+        (outside (S.contents store.old) (S.fault_count store.old) (O.taken_bytes out.old))
+        (outside (S.contents store.new) (S.fault_count store.new) (O.taken_bytes out.new))) }
+    ensures stops { OnErr result (Stops words.now
+        (outside (S.contents store.old) (S.fault_count store.old) (O.taken_bytes out.old))
+        (outside (S.contents store.new) (S.fault_count store.new) (O.taken_bytes out.new))) }
     ensures fault { IsErrOf result Stop.OutputFault → Rose (O.fault_count out.old) (O.fault_count out.new) }
 {
-    let Some(command) = Command::from_words(words) else {
-        say(out, USAGE)?;
+    let Some(command) = read_words(alloc, words)? else {
+        say(out, usage())?;
         return Ok(Status::Usage);
     };
-    let outcome = come_out(alloc, &command, store)?;
-    tell(alloc, &command, &outcome, out)
+    let script = match load(alloc, store, command.script.get()) {
+        Ok(script) => script,
+        Err(Unread::Refused(error)) => {
+            return refuse_script(alloc, out, command.script.get(), error);
+        }
+        Err(Unread::NoMemory) => return Err(Stop::NoMemory),
+    };
+    let Some(engine) = Renaming::from_script(&script) else {
+        let at = 0;
+        let kind = FormKind::Subset;
+        return refuse_script(
+            alloc,
+            out,
+            command.script.get(),
+            RowError::Form { at, kind },
+        );
+    };
+    let engine = &engine;
+    let command = &command;
+    run_job(alloc, &Job { engine, command }, store, out)
 }
 
-// How the words end.
-fn ended<S: Store, O: Sink>(alloc: Global, words: &[String], store: &mut S, out: &mut O) -> Status
-    ensures ends { Ends words.now (outside (S.contents store.old) (S.fault_count store.old) (O.taken_bytes out.old)) (outside (S.contents store.new) (S.fault_count store.new) (O.taken_bytes out.new)) result }
-    ensures kept { S.contents store.new ≡ S.contents store.old }
+/// Runs the command that the words are over the files of the store, and writes its rows.
+pub fn run<S: Store, O: Sink>(alloc: Global, words: &[String], store: &mut S, out: &mut O) -> Status
+    ensures ends { Ends words.now
+        (outside (S.contents store.old) (S.fault_count store.old) (O.taken_bytes out.old))
+        (outside (S.contents store.new) (S.fault_count store.new) (O.taken_bytes out.new)) result }
+    ensures usage { asked words.now ≡ None → EndsBy Status.Usage result }
+    ensures no_script { (command : Invocation) → asked words.now ≡ Some command → LacksScript (S.contents store.old) command.script → EndsBy Status.NoScript result }
+    ensures dry { (command : Invocation) → asked words.now ≡ Some command → command.dry ≡ true → S.contents store.new ≡ S.contents store.old }
     ensures fault { result ≡ Status.OutputFault → Rose (O.fault_count out.old) (O.fault_count out.new) }
 {
     match run_words(alloc, words, store, out) {
@@ -71,16 +101,4 @@ fn ended<S: Store, O: Sink>(alloc: Global, words: &[String], store: &mut S, out:
         Err(Stop::NoMemory) => Status::NoMemory,
         Err(Stop::OutputFault) => Status::OutputFault,
     }
-}
-
-/// Runs the command that the words are over the files of the store, and writes its rows.
-pub fn run<S: Store, O: Sink>(alloc: Global, words: &[String], store: &mut S, out: &mut O) -> Status
-    ensures ends { Ends words.now (outside (S.contents store.old) (S.fault_count store.old) (O.taken_bytes out.old)) (outside (S.contents store.new) (S.fault_count store.new) (O.taken_bytes out.new)) result }
-    ensures kept { S.contents store.new ≡ S.contents store.old }
-    ensures usage { IsOther words.now → EndsBy Status.Usage result }
-    ensures no_script { (script file : List ℕ) → IsCommand words.now script file → LacksScript (S.contents store.old) script → EndsBy Status.NoScript result }
-    ensures fault { result ≡ Status.OutputFault → Rose (O.fault_count out.old) (O.fault_count out.new) }
-    ensures no_errors { result ≢ Status.HadErrors }
-{
-    ended(alloc, words, store, out)
 }

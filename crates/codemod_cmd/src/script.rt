@@ -20,6 +20,7 @@ const BACK: &[u8] = b"\")).toSource();";
 pub struct Renaming<'a> {
     pub old: &'a [u8],
     pub new: &'a [u8],
+    ghost lawful: { IsPlainName new.now },
 }
 
 // What stands behind this front.

@@ -1,0 +1,63 @@
+//! What a run says of one name.
+
+/// What stands where a source can no longer be read.
+#[derive(Clone, Copy, Debug, PartialEq, Eq)]
+pub enum SyntaxKind {
+    /// No program goes on so.
+    Unexpected,
+    /// More nodes nest than may.
+    Nesting,
+}
+
+/// Why a script stops.
+#[derive(Clone, Copy, Debug, PartialEq, Eq)]
+pub enum FaultKind {
+    /// A list has more than 1,000,000 items.
+    ListLong,
+}
+
+/// Why a script is not run.
+#[derive(Clone, Copy, Debug, PartialEq, Eq)]
+pub enum FormKind {
+    /// It is no script of those that are understood.
+    Subset,
+}
+
+/// Why a file, a folder or a script has no answer. Offsets count bytes.
+#[derive(Clone, Copy, Debug, PartialEq, Eq)]
+pub enum RowError {
+    /// Nothing has the name.
+    Missing,
+    /// The store failed as it read the name, and counted it.
+    ReadFault,
+    /// The store failed as it listed the name, and counted it.
+    ListFault,
+    /// The store failed as it wrote the new text, and counted it.
+    WriteFault,
+    /// So many entries of the folder have names that are not UTF-8.
+    Unnamed { count: u64 },
+    /// The folder stands more than 64 levels below the one that was named.
+    FolderDeep,
+    /// There are more than 2,097,152 bytes.
+    TooLong,
+    /// The byte at the offset is the first that begins no UTF-8 character.
+    NotUtf8 { at: u32 },
+    /// The source is no program, or nests too deep.
+    Syntax { at: u32, kind: SyntaxKind },
+    /// The script stopped at this offset of its own.
+    Script { at: u32, kind: FaultKind },
+    /// The script is not of the right form at this offset. Of scripts alone.
+    Form { at: u32, kind: FormKind },
+}
+
+/// What a run says of one file.
+#[derive(Clone, Copy, Debug, PartialEq, Eq)]
+pub enum RowAnswer {
+    /// The script made a new text.
+    Ok,
+    /// The script made the text that there was.
+    Unmodified,
+    /// The script made no text.
+    Skipped,
+    Error(RowError),
+}

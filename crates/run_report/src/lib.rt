@@ -1,0 +1,12 @@
+//! What a run says of each name, and the texts that it writes of it: rows, counts and reasons.
+//!
+//! It stands at the end of the way of the data: what a file came to goes in, lines come out.
+#![tactic(auto)]
+
+mod answer;
+mod counts;
+mod texts;
+
+pub use answer::{FaultKind, FormKind, RowAnswer, RowError, SyntaxKind};
+pub use counts::Counts;
+pub use texts::{push_printed, row_text, script_text, summary};
