@@ -1,0 +1,7 @@
+use Rattle.std.proofs.Common.{◌≡◌, drop}
+use Rattle.js_lexer.specs.Blanks.{blank_len, gap_len}
+use Rattle.js_lexer.specs.Parts.{row_end}
+use Rattle.js_lexer.proofs.blanks.gap_len.Given as goal
+
+abbrev pub invariant-loop-at : goal.invariant-loop-at
+invariant-loop-at l = row_end blank_len l.skip l.at (drop l.at l.rest) ≡ gap_len l.rest

@@ -1,0 +1,9 @@
+pub mod Blanks
+pub mod Cursors
+pub mod Elements
+pub mod Faults
+pub mod Marks
+pub mod Numbers
+pub mod Parts
+pub mod Quoted
+pub mod Scan

@@ -1,0 +1,6 @@
+pub mod Forest
+pub mod Lists
+pub mod Payload
+pub mod Reads
+pub mod Rows
+pub mod Store
