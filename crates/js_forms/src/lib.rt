@@ -1,0 +1,22 @@
+//! The table of forms: how each kind of node is spelled. Readers, printers and checks interpret it.
+//!
+//! A form is a kind with what its spelling needs to be told: the operator, how a function runs, whether
+//! a key is computed. Its parts are few sorts of tokens and children. What a form begins with is
+//! chosen by looking ahead, and is no part of the table.
+#![tactic(auto)]
+
+mod category;
+mod fixed;
+mod form;
+mod levels;
+mod operator;
+mod part;
+mod table;
+
+pub use category::Category;
+pub use fixed::scalars;
+pub use form::{Access, Flow, Form, Key, Link, Sort, Standing, Variable};
+pub use levels::{Left, first_child, level, right};
+pub use operator::{Operator, assigning, binary, logical, unary};
+pub use part::{List, Part, Place, Scope};
+pub use table::parts;
