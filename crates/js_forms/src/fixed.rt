@@ -1,41 +1,69 @@
 //! The scalars that a form determines. Those that a text spells come behind them.
 
-use crate::form::{Access, Form, Key, Link, Sort, Standing, Variable};
-use js_tokens::units;
-use std::alloc::{AllocError, Global};
-use tree_core::{Scalar, Scalars};
+ghost use Rattle.std.specs.Prelude.{◌≡◌, ◌∷◌, [], IfOk};
+ghost use Rattle.tree_core.specs.declared.scalars.Scalar.TheVariants as scalar;
+ghost use Rattle.js_forms.specs.Fixed as spec;
 
-fn text(alloc: Global, spelling: &str) -> Result<Scalars, AllocError> {
-    let units = units(alloc, spelling.as_bytes(), false)?;
+use crate::form::{Access, Form, Key, Link, Sort, Standing, Variable};
+use crate::operator::Operator;
+use std::alloc::{AllocError, Global};
+use tree_core::{Scalar, Scalars, Units};
+
+// The code units of an ASCII text.
+fn ascii_units(alloc: Global, bytes: &[u8]) -> Result<Units, AllocError>
+    ensures { IfOk result (λ units. units ≡ bytes.now) }
+{
+    let mut units = Vec::with_capacity(alloc, bytes.len())?;
+    for byte in bytes {
+        units.push(*byte as u16)?;
+    }
+    Ok(Units::new(units))
+}
+
+fn text(alloc: Global, spelling: &str) -> Result<Scalars, AllocError>
+    ensures { IfOk result (λ all. all ≡ scalar.Text spelling.now ∷ []) }
+{
+    let units = ascii_units(alloc, spelling.as_bytes())?;
     Ok(Scalars::one(Scalar::Text(units)))
 }
 
-fn truth(truth: bool) -> Scalars {
+fn truth(truth: bool) -> Scalars
+    ensures { result ≡ scalar.Truth truth ∷ [] }
+{
     Scalars::one(Scalar::Truth(truth))
 }
 
-fn is_computed(key: Key) -> bool {
+fn is_computed(key: Key) -> bool
+    ensures { result ≡ spec.is_computed key }
+{
     match key {
         Key::Plain => false,
         Key::Computed => true,
     }
 }
 
-fn is_static(standing: Standing) -> bool {
+fn is_static(standing: Standing) -> bool
+    ensures { result ≡ spec.is_static standing }
+{
     match standing {
         Standing::Instance => false,
         Standing::Static => true,
     }
 }
 
-fn is_optional(link: Link) -> bool {
+fn is_optional(link: Link) -> bool
+    ensures { result ≡ spec.is_optional link }
+{
     match link {
         Link::Plain => false,
         Link::Optional => true,
     }
 }
 
-fn access_name(access: Access) -> &'static str {
+#[tactic(auto, unfolding(crate::specs::Fixed::access_name))]
+fn access_name(access: Access) -> &'static str
+    ensures { result.now ≡ spec.access_name access }
+{
     match access {
         Access::Method => "method",
         Access::Get => "get",
@@ -44,7 +72,10 @@ fn access_name(access: Access) -> &'static str {
     }
 }
 
-fn variable_name(variable: Variable) -> &'static str {
+#[tactic(auto, unfolding(crate::specs::Fixed::variable_name))]
+fn variable_name(variable: Variable) -> &'static str
+    ensures { result.now ≡ spec.variable_name variable }
+{
     match variable {
         Variable::Var => "var",
         Variable::Let => "let",
@@ -52,7 +83,10 @@ fn variable_name(variable: Variable) -> &'static str {
     }
 }
 
-fn sort_name(sort: Sort) -> &'static str {
+#[tactic(auto, unfolding(crate::specs::Fixed::sort_name))]
+fn sort_name(sort: Sort) -> &'static str
+    ensures { result.now ≡ spec.sort_name sort }
+{
     match sort {
         Sort::Quoted => "string",
         Sort::Number => "number",
@@ -70,21 +104,27 @@ fn property(
     method: bool,
     shorthand: bool,
     key: Key,
-) -> Result<Scalars, AllocError> {
+) -> Result<Scalars, AllocError>
+    ensures { IfOk result (λ all. all ≡ spec.property kind.now method shorthand key) }
+{
     text(alloc, kind)?
         .with(alloc, Scalar::Truth(method))?
         .with(alloc, Scalar::Truth(shorthand))?
         .with(alloc, Scalar::Truth(is_computed(key)))
 }
 
-fn property_method(alloc: Global, access: Access, key: Key) -> Result<Scalars, AllocError> {
+fn property_method(alloc: Global, access: Access, key: Key) -> Result<Scalars, AllocError>
+    ensures { IfOk result (λ all. all ≡ spec.property_method access key) }
+{
     match access {
         Access::Get | Access::Set => property(alloc, access_name(access), false, false, key),
         Access::Method | Access::Constructor => property(alloc, "init", true, false, key),
     }
 }
 
-fn literal(alloc: Global, sort: Sort) -> Result<Scalars, AllocError> {
+fn literal(alloc: Global, sort: Sort) -> Result<Scalars, AllocError>
+    ensures { IfOk result (λ all. all ≡ spec.literal sort) }
+{
     let scalars = text(alloc, sort_name(sort))?;
     match sort {
         Sort::True => scalars
@@ -98,51 +138,71 @@ fn literal(alloc: Global, sort: Sort) -> Result<Scalars, AllocError> {
     }
 }
 
-/// The scalars that the form determines, in the order of the kind's fields.
-pub fn scalars(alloc: Global, form: Form) -> Result<Scalars, AllocError> {
-    if let Some(operator) = form.operator() {
-        let scalars = text(alloc, operator.spelling())?;
-        return match form {
-            Form::Prefix(_) => scalars.with(alloc, Scalar::Truth(true)),
-            Form::Postfix(_) => scalars.with(alloc, Scalar::Truth(false)),
-            _ => Ok(scalars),
-        };
-    }
+// Those of an expression with an operator.
+fn operation(alloc: Global, form: Form, operator: Operator) -> Result<Scalars, AllocError>
+    ensures { IfOk result (λ all. all ≡ spec.operation form operator) }
+{
+    let scalars = text(alloc, operator.spelling())?;
     match form {
-        Form::Literal(sort) => literal(alloc, sort),
+        Form::Prefix(_) => scalars.with(alloc, Scalar::Truth(true)),
+        Form::Postfix(_) => scalars.with(alloc, Scalar::Truth(false)),
+        _ => Ok(scalars),
+    }
+}
+
+// Those of a method, a field or a property.
+fn member(alloc: Global, form: Form) -> Result<Scalars, AllocError>
+    ensures { IfOk result (λ all. all ≡ spec.member form) }
+{
+    match form {
         Form::Property(key) => property(alloc, "init", false, false, key),
         Form::ShorthandProperty => property(alloc, "init", false, true, Key::Plain),
         Form::PropertyMethod(access, _, key) => property_method(alloc, access, key),
-        Form::Function(_)
-        | Form::MethodValue(_)
-        | Form::GetterValue
-        | Form::SetterValue
-        | Form::FunctionDeclaration(_) => {
-            truth(form.flow().is_async()).with(alloc, Scalar::Truth(form.flow().is_generator()))
-        }
-        Form::Arrow(flow) => Ok(truth(flow.is_async())),
         Form::Method(access, standing, _, key) => text(alloc, access_name(access))?
             .with(alloc, Scalar::Truth(is_static(standing)))?
             .with(alloc, Scalar::Truth(is_computed(key))),
         Form::Field(standing, key) => {
             truth(is_computed(key)).with(alloc, Scalar::Truth(is_static(standing)))
         }
+        Form::PatternProperty(key) => truth(false).with(alloc, Scalar::Truth(is_computed(key))),
+        Form::PatternShorthand => truth(true).with(alloc, Scalar::Truth(false)),
+        _ => Ok(Scalars::new()),
+    }
+}
+
+// Those of a function, a member expression, a call and the rest.
+fn other(alloc: Global, form: Form) -> Result<Scalars, AllocError>
+    ensures { IfOk result (λ all. all ≡ spec.other form) }
+{
+    match form {
+        Form::Literal(sort) => literal(alloc, sort),
+        Form::Function(flow) | Form::MethodValue(flow) | Form::FunctionDeclaration(flow) => {
+            truth(flow.is_async()).with(alloc, Scalar::Truth(flow.is_generator()))
+        }
+        Form::GetterValue | Form::SetterValue => truth(false).with(alloc, Scalar::Truth(false)),
+        Form::Arrow(flow) => Ok(truth(flow.is_async())),
         Form::Dot(link) => truth(false).with(alloc, Scalar::Truth(is_optional(link))),
         Form::Index(link) => truth(true).with(alloc, Scalar::Truth(is_optional(link))),
         Form::Call(link) => Ok(truth(is_optional(link))),
         Form::NewTarget => text(alloc, "new.target"),
         Form::ImportMeta => text(alloc, "import.meta"),
-        Form::Yield | Form::YieldValue => Ok(truth(false)),
-        Form::YieldStar => Ok(truth(true)),
-        Form::PatternProperty(key) => { truth(false).with(alloc, Scalar::Truth(is_computed(key))) }
-        Form::PatternShorthand => truth(true).with(alloc, Scalar::Truth(false)),
-        Form::ForOf => Ok(truth(false)),
-        Form::ForAwait => Ok(truth(true)),
         Form::Variables(variable) | Form::HeadVariables(variable) => {
             text(alloc, variable_name(variable))
         }
+        Form::Yield | Form::YieldValue | Form::ForOf => Ok(truth(false)),
+        Form::YieldStar | Form::ForAwait => Ok(truth(true)),
         Form::ImportSpecifier | Form::ExportSpecifier => Ok(truth(false)),
         Form::ImportShorthand | Form::ExportShorthand => Ok(truth(true)),
-        _ => Ok(Scalars::new()),
+        _ => member(alloc, form),
+    }
+}
+
+/// The scalars that the form determines, in the order of the kind's fields.
+pub fn scalars(alloc: Global, form: Form) -> Result<Scalars, AllocError>
+    ensures { IfOk result (λ all. all ≡ spec.scalars form) }
+{
+    match form.operator() {
+        Some(operator) => operation(alloc, form, operator),
+        None => other(alloc, form),
     }
 }

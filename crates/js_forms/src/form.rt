@@ -1,5 +1,8 @@
 //! Forms: the kinds of nodes with what tells their spellings apart.
 
+ghost use Rattle.std.specs.Prelude.{◌≡◌};
+ghost use Rattle.js_forms.specs.Forms as spec;
+
 use crate::operator::Operator;
 use type_defs::Kind;
 
@@ -13,7 +16,9 @@ pub enum Flow {
 }
 
 impl Flow {
-    pub fn new(is_async: bool, generator: bool) -> Flow {
+    pub fn new(is_async: bool, generator: bool) -> Flow
+        ensures { result ≡ spec.flow_with is_async generator }
+    {
         match (is_async, generator) {
             (false, false) => Flow::Plain,
             (true, false) => Flow::Async,
@@ -22,14 +27,18 @@ impl Flow {
         }
     }
 
-    pub fn is_async(self) -> bool {
+    pub fn is_async(self) -> bool
+        ensures { result ≡ spec.is_async self }
+    {
         match self {
             Flow::Async | Flow::AsyncGenerator => true,
             Flow::Plain | Flow::Generator => false,
         }
     }
 
-    pub fn is_generator(self) -> bool {
+    pub fn is_generator(self) -> bool
+        ensures { result ≡ spec.is_generator self }
+    {
         match self {
             Flow::Generator | Flow::AsyncGenerator => true,
             Flow::Plain | Flow::Async => false,
@@ -194,21 +203,75 @@ pub enum Form {
 
 impl Form {
     /// The kind of the node.
-    pub fn kind(self) -> Kind {
+    pub fn kind(self) -> Kind
+        ensures { result ≡ spec.kind_of self }
+    {
+        if let Some(kind) = self.statement_kind() {
+            return kind;
+        }
+        if let Some(kind) = self.operation_kind() {
+            return kind;
+        }
+        match self.pattern_kind() {
+            Some(kind) => kind,
+            None => self.other_kind(),
+        }
+    }
+
+    // The kind of an expression that has operands.
+    fn operation_kind(self) -> Option<Kind>
+        ensures { result ≡ spec.operation_kind self }
+    {
         match self {
-            Form::Name | Form::AnyName => Kind::Identifier,
+            Form::Tagged => Some(Kind::TaggedTemplateExpression),
+            Form::Dot(_) | Form::Index(_) => Some(Kind::MemberExpression),
+            Form::Call(_) => Some(Kind::CallExpression),
+            Form::New => Some(Kind::NewExpression),
+            Form::ImportCall => Some(Kind::ImportExpression),
+            Form::Chain => Some(Kind::ChainExpression),
+            Form::NewTarget | Form::ImportMeta => Some(Kind::MetaProperty),
+            Form::Prefix(_) | Form::Postfix(_) => Some(Kind::UpdateExpression),
+            Form::Unary(_) => Some(Kind::UnaryExpression),
+            Form::Await => Some(Kind::AwaitExpression),
+            Form::Yield | Form::YieldValue | Form::YieldStar => Some(Kind::YieldExpression),
+            Form::Binary(_) => Some(Kind::BinaryExpression),
+            Form::Logical(_) => Some(Kind::LogicalExpression),
+            Form::Conditional => Some(Kind::ConditionalExpression),
+            Form::Assignment(_) => Some(Kind::AssignmentExpression),
+            Form::Sequence => Some(Kind::SequenceExpression),
+            _ => None,
+        }
+    }
+
+    // The kind of a pattern or of a part of one.
+    fn pattern_kind(self) -> Option<Kind>
+        ensures { result ≡ spec.pattern_kind self }
+    {
+        match self {
+            Form::ArrayPattern => Some(Kind::ArrayPattern),
+            Form::ObjectPattern => Some(Kind::ObjectPattern),
+            Form::PatternProperty(_) | Form::PatternShorthand => Some(Kind::AssignmentProperty),
+            Form::Default => Some(Kind::AssignmentPattern),
+            Form::Rest | Form::NameRest => Some(Kind::RestElement),
+            _ => None,
+        }
+    }
+
+    // The kind of all else.
+    fn other_kind(self) -> Kind
+        ensures { result ≡ spec.other_kind self }
+    {
+        match self {
             Form::PrivateName => Kind::PrivateIdentifier,
             Form::Literal(_) => Kind::Literal,
             Form::This => Kind::ThisExpression,
             Form::Super => Kind::Super,
             Form::Array => Kind::ArrayExpression,
             Form::Object => Kind::ObjectExpression,
-            Form::Property(_) | Form::ShorthandProperty | Form::PropertyMethod(_, _, _) => {
-                Kind::Property
-            }
-            Form::Function(_) | Form::MethodValue(_) | Form::GetterValue | Form::SetterValue => {
-                Kind::FunctionExpression
-            }
+            Form::Property(_) | Form::ShorthandProperty | Form::PropertyMethod(_, _, _) =>
+                Kind::Property,
+            Form::Function(_) | Form::MethodValue(_) | Form::GetterValue | Form::SetterValue =>
+                Kind::FunctionExpression,
             Form::Arrow(_) => Kind::ArrowFunctionExpression,
             Form::Class => Kind::ClassExpression,
             Form::ClassBody => Kind::ClassBody,
@@ -217,74 +280,60 @@ impl Form {
             Form::StaticBlock => Kind::StaticBlock,
             Form::Template => Kind::TemplateLiteral,
             Form::TemplateElement => Kind::TemplateElement,
-            Form::Tagged => Kind::TaggedTemplateExpression,
-            Form::Dot(_) | Form::Index(_) => Kind::MemberExpression,
-            Form::Call(_) => Kind::CallExpression,
-            Form::New => Kind::NewExpression,
-            Form::ImportCall => Kind::ImportExpression,
-            Form::Chain => Kind::ChainExpression,
-            Form::NewTarget | Form::ImportMeta => Kind::MetaProperty,
-            Form::Prefix(_) | Form::Postfix(_) => Kind::UpdateExpression,
-            Form::Unary(_) => Kind::UnaryExpression,
-            Form::Await => Kind::AwaitExpression,
-            Form::Yield | Form::YieldValue | Form::YieldStar => Kind::YieldExpression,
-            Form::Binary(_) => Kind::BinaryExpression,
-            Form::Logical(_) => Kind::LogicalExpression,
-            Form::Conditional => Kind::ConditionalExpression,
-            Form::Assignment(_) => Kind::AssignmentExpression,
-            Form::Sequence => Kind::SequenceExpression,
             Form::Spread => Kind::SpreadElement,
-            Form::ArrayPattern => Kind::ArrayPattern,
-            Form::ObjectPattern => Kind::ObjectPattern,
-            Form::PatternProperty(_) | Form::PatternShorthand => Kind::AssignmentProperty,
-            Form::Default => Kind::AssignmentPattern,
-            Form::Rest | Form::NameRest => Kind::RestElement,
-            _ => self.statement_kind(),
+            _ => Kind::Identifier,
         }
     }
 
     // The kind of a statement, or of a part of one.
-    fn statement_kind(self) -> Kind {
+    fn statement_kind(self) -> Option<Kind>
+        ensures { result ≡ spec.statement_kind self }
+    {
         match self {
-            Form::Program => Kind::Program,
-            Form::Directive => Kind::Directive,
-            Form::Block | Form::FunctionBody => Kind::BlockStatement,
-            Form::Empty => Kind::EmptyStatement,
-            Form::Debugger => Kind::DebuggerStatement,
-            Form::With => Kind::WithStatement,
-            Form::Return => Kind::ReturnStatement,
-            Form::Labeled => Kind::LabeledStatement,
-            Form::Break => Kind::BreakStatement,
-            Form::Continue => Kind::ContinueStatement,
-            Form::If => Kind::IfStatement,
-            Form::Switch => Kind::SwitchStatement,
-            Form::Case | Form::DefaultCase => Kind::SwitchCase,
-            Form::Throw => Kind::ThrowStatement,
-            Form::Try => Kind::TryStatement,
-            Form::Catch => Kind::CatchClause,
-            Form::While => Kind::WhileStatement,
-            Form::DoWhile => Kind::DoWhileStatement,
-            Form::For => Kind::ForStatement,
-            Form::ForIn => Kind::ForInStatement,
-            Form::ForOf | Form::ForAwait => Kind::ForOfStatement,
-            Form::Variables(_) | Form::HeadVariables(_) => Kind::VariableDeclaration,
-            Form::Declarator => Kind::VariableDeclarator,
-            Form::FunctionDeclaration(_) => Kind::FunctionDeclaration,
-            Form::ClassDeclaration => Kind::ClassDeclaration,
-            Form::Import => Kind::ImportDeclaration,
-            Form::ImportSpecifier | Form::ImportShorthand => Kind::ImportSpecifier,
-            Form::ImportDefault => Kind::ImportDefaultSpecifier,
-            Form::ImportNamespace => Kind::ImportNamespaceSpecifier,
-            Form::ExportDeclaration | Form::ExportNames => Kind::ExportNamedDeclaration,
-            Form::ExportSpecifier | Form::ExportShorthand => Kind::ExportSpecifier,
-            Form::ExportDefault | Form::ExportDefaultDeclaration => Kind::ExportDefaultDeclaration,
-            Form::ExportAll => Kind::ExportAllDeclaration,
-            _ => Kind::ExpressionStatement,
+            Form::Program => Some(Kind::Program),
+            Form::Directive => Some(Kind::Directive),
+            Form::Block | Form::FunctionBody => Some(Kind::BlockStatement),
+            Form::Empty => Some(Kind::EmptyStatement),
+            Form::Debugger => Some(Kind::DebuggerStatement),
+            Form::With => Some(Kind::WithStatement),
+            Form::Return => Some(Kind::ReturnStatement),
+            Form::Labeled => Some(Kind::LabeledStatement),
+            Form::Break => Some(Kind::BreakStatement),
+            Form::Continue => Some(Kind::ContinueStatement),
+            Form::If => Some(Kind::IfStatement),
+            Form::Switch => Some(Kind::SwitchStatement),
+            Form::Case | Form::DefaultCase => Some(Kind::SwitchCase),
+            Form::Throw => Some(Kind::ThrowStatement),
+            Form::Try => Some(Kind::TryStatement),
+            Form::Catch => Some(Kind::CatchClause),
+            Form::While => Some(Kind::WhileStatement),
+            Form::DoWhile => Some(Kind::DoWhileStatement),
+            Form::For => Some(Kind::ForStatement),
+            Form::ForIn => Some(Kind::ForInStatement),
+            Form::ForOf | Form::ForAwait => Some(Kind::ForOfStatement),
+            Form::Variables(_) | Form::HeadVariables(_) => Some(Kind::VariableDeclaration),
+            Form::Declarator => Some(Kind::VariableDeclarator),
+            Form::FunctionDeclaration(_) => Some(Kind::FunctionDeclaration),
+            Form::ClassDeclaration => Some(Kind::ClassDeclaration),
+            Form::Import => Some(Kind::ImportDeclaration),
+            Form::ImportSpecifier | Form::ImportShorthand => Some(Kind::ImportSpecifier),
+            Form::ImportDefault => Some(Kind::ImportDefaultSpecifier),
+            Form::ImportNamespace => Some(Kind::ImportNamespaceSpecifier),
+            Form::ExportDeclaration | Form::ExportNames => Some(Kind::ExportNamedDeclaration),
+            Form::ExportSpecifier | Form::ExportShorthand => Some(Kind::ExportSpecifier),
+            Form::ExportDefault | Form::ExportDefaultDeclaration => Some(
+                Kind::ExportDefaultDeclaration,
+            ),
+            Form::ExportAll => Some(Kind::ExportAllDeclaration),
+            Form::ExpressionStatement => Some(Kind::ExpressionStatement),
+            _ => None,
         }
     }
 
     /// Whether the node is a function of its own, to which `await` and `yield` in it belong.
-    pub fn is_function(self) -> bool {
+    pub fn is_function(self) -> bool
+        ensures { result ≡ spec.is_function self }
+    {
         match self {
             Form::Function(_)
             | Form::MethodValue(_)
@@ -297,7 +346,9 @@ impl Form {
     }
 
     /// How the function runs, of a function or a method.
-    pub fn flow(self) -> Flow {
+    pub fn flow(self) -> Flow
+        ensures { result ≡ spec.flow_of self }
+    {
         match self {
             Form::Function(flow)
             | Form::MethodValue(flow)
@@ -310,7 +361,9 @@ impl Form {
     }
 
     /// The operator of an expression that has one.
-    pub fn operator(self) -> Option<Operator> {
+    pub fn operator(self) -> Option<Operator>
+        ensures { result ≡ spec.operator_of self }
+    {
         match self {
             Form::Prefix(operator)
             | Form::Postfix(operator)

@@ -1,6 +1,9 @@
 //! Levels: how tightly an expression binds. A place that wants a higher level takes it in
 //! parentheses alone.
 
+ghost use Rattle.std.specs.Prelude.{◌≡◌};
+ghost use Rattle.js_forms.specs.Levels as spec;
+
 use crate::form::{Form, Link};
 use crate::operator::Operator;
 use js_tokens::Punctuator;
@@ -21,7 +24,9 @@ pub enum Left {
 }
 
 // The level of a binary expression.
-fn binary_level(operator: Operator) -> u8 {
+fn binary_level(operator: Operator) -> u8
+    ensures { result ≡ spec.binary_level operator }
+{
     match operator {
         Operator::Word(_) => 9,
         Operator::Mark(mark) => match mark {
@@ -46,7 +51,9 @@ fn binary_level(operator: Operator) -> u8 {
 
 /// The level of an expression in this form. A member, a tagged template or a `new` has this one or
 /// another, as its first child or its arguments say.
-pub fn level(form: Form) -> u8 {
+pub fn level(form: Form) -> u8
+    ensures { result ≡ spec.level form }
+{
     match form {
         Form::Sequence => 0,
         Form::Assignment(_) | Form::Arrow(_) | Form::Yield | Form::YieldValue | Form::YieldStar =>
@@ -72,7 +79,9 @@ pub fn level(form: Form) -> u8 {
 }
 
 /// What the first child is, of a form that begins with an expression.
-pub fn first_child(form: Form) -> Left {
+pub fn first_child(form: Form) -> Left
+    ensures { result ≡ spec.first_child form }
+{
     match form {
         Form::Logical(operator) => match operator {
             Operator::Mark(Punctuator::AndAnd) => Left::Level(4),
@@ -94,7 +103,9 @@ pub fn first_child(form: Form) -> Left {
 }
 
 /// The least level of the right operand.
-pub fn right(operator: Operator) -> u8 {
+pub fn right(operator: Operator) -> u8
+    ensures { result ≡ spec.right operator }
+{
     match operator {
         Operator::Word(_) => 10,
         Operator::Mark(mark) => match mark {

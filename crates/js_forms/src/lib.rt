@@ -18,5 +18,19 @@ pub use fixed::scalars;
 pub use form::{Access, Flow, Form, Key, Link, Sort, Standing, Variable};
 pub use levels::{Left, first_child, level, right};
 pub use operator::{Operator, assigning, binary, logical, unary};
-pub use part::{List, Part, Place, Scope};
+pub use part::{List, MetaWord, Part, Place, Scope};
 pub use table::parts;
+
+#[cfg(test)]
+mod tests {
+    use crate::{Flow, Form, Link, level, parts, scalars};
+    use std::alloc::AllocError;
+
+    #[test]
+    fn table(rt: HostRuntime) -> Result<(), AllocError> {
+        assert!(rt; parts(Form::If).len() == 6);
+        assert!(rt; level(Form::Dot(Link::Plain)) == 18);
+        assert!(rt; scalars(rt.alloc(), Form::Function(Flow::Async))?.len() == 2);
+        Ok(())
+    }
+}

@@ -1,5 +1,8 @@
 //! Operators.
 
+ghost use Rattle.std.specs.Prelude.{◌≡◌};
+ghost use Rattle.js_forms.specs.Operators as spec;
+
 use js_tokens::{Punctuator, TokenKind, Word};
 
 /// An operator, by its token.
@@ -10,7 +13,9 @@ pub enum Operator {
 }
 
 impl Operator {
-    pub fn spelling(self) -> &'static str {
+    pub fn spelling(self) -> &'static str
+        ensures { result.now ≡ spec.operator_spelling self }
+    {
         match self {
             Operator::Mark(mark) => mark.spelling(),
             Operator::Word(word) => word.spelling(),
@@ -20,7 +25,9 @@ impl Operator {
 
 /// The operator before an operand that the token is (ECMA-262, clause 13.5), `++` and `--` left
 /// aside.
-pub fn unary(token: TokenKind) -> Option<Operator> {
+pub fn unary(token: TokenKind) -> Option<Operator>
+    ensures { result ≡ spec.unary token }
+{
     match token {
         TokenKind::Punctuator(mark) => match mark {
             Punctuator::Plus | Punctuator::Minus | Punctuator::Bang | Punctuator::Tilde => {
@@ -37,7 +44,9 @@ pub fn unary(token: TokenKind) -> Option<Operator> {
 }
 
 /// The operator of a binary expression that the token is (ECMA-262, clauses 13.6 to 13.12).
-pub fn binary(token: TokenKind) -> Option<Operator> {
+pub fn binary(token: TokenKind) -> Option<Operator>
+    ensures { result ≡ spec.binary token }
+{
     match token {
         TokenKind::Punctuator(mark) => binary_mark(mark),
         TokenKind::Name(word) => match word {
@@ -48,7 +57,9 @@ pub fn binary(token: TokenKind) -> Option<Operator> {
     }
 }
 
-fn binary_mark(mark: Punctuator) -> Option<Operator> {
+fn binary_mark(mark: Punctuator) -> Option<Operator>
+    ensures { result ≡ spec.binary_mark mark }
+{
     match mark {
         Punctuator::Bar
         | Punctuator::Caret
@@ -75,7 +86,9 @@ fn binary_mark(mark: Punctuator) -> Option<Operator> {
 }
 
 /// The operator of a logical expression that the token is (ECMA-262, clause 13.13).
-pub fn logical(token: TokenKind) -> Option<Operator> {
+pub fn logical(token: TokenKind) -> Option<Operator>
+    ensures { result ≡ spec.logical token }
+{
     match token {
         TokenKind::Punctuator(mark) => match mark {
             Punctuator::AndAnd | Punctuator::OrOr | Punctuator::Nullish => {
@@ -88,7 +101,9 @@ pub fn logical(token: TokenKind) -> Option<Operator> {
 }
 
 /// The operator of an assignment that the token is (ECMA-262, clause 13.15).
-pub fn assigning(token: TokenKind) -> Option<Operator> {
+pub fn assigning(token: TokenKind) -> Option<Operator>
+    ensures { result ≡ spec.assigning token }
+{
     match token {
         TokenKind::Punctuator(mark) => match mark {
             Punctuator::Assign

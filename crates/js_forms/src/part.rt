@@ -1,5 +1,8 @@
 //! The parts of which forms are made.
 
+ghost use Rattle.std.specs.Prelude.{◌≡◌};
+ghost use Rattle.js_forms.specs.Table.{meta_spelling};
+
 use crate::category::Category;
 use js_tokens::{Punctuator, Word};
 
@@ -18,6 +21,25 @@ pub enum Scope {
     Class,
     /// The value of a field, or a static block.
     Field,
+}
+
+/// The words behind the dot of `new.target` and `import.meta`.
+#[derive(Clone, Copy, Debug, PartialEq, Eq)]
+pub enum MetaWord {
+    Target,
+    Meta,
+}
+
+impl MetaWord {
+    #[tactic(auto, unfolding(crate::specs::Table::meta_spelling))]
+    pub fn spelling(self) -> &'static str
+        ensures { result.now ≡ meta_spelling self }
+    {
+        match self {
+            MetaWord::Target => "target",
+            MetaWord::Meta => "meta",
+        }
+    }
 }
 
 /// A place for one child.
@@ -44,7 +66,7 @@ pub enum Part {
     Mark(Punctuator),
     Word(Word),
     /// A word that the grammar knows at this place alone.
-    Spelled(&'static str),
+    Spelled(MetaWord),
     /// The form's operator.
     Operator,
     /// `async`, where the function is one.

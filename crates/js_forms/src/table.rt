@@ -1,8 +1,11 @@
 //! The parts of each form.
 
+ghost use Rattle.std.specs.Prelude.{◌≡◌};
+ghost use Rattle.js_forms.specs.Table as spec;
+
 use crate::category::Category;
 use crate::form::{Access, Flow, Form, Link, Variable};
-use crate::part::{List, Part, Place, Scope};
+use crate::part::{List, MetaWord, Part, Place, Scope};
 use js_tokens::{Punctuator, Word};
 
 macro_rules! place {
@@ -75,7 +78,9 @@ const HERITAGE: Part = Part::ToldByWord(
 /// The parts of the form, in order. A form that begins with an expression has the parts behind it,
 /// and a form with a key those behind the key. A form whose parts no table tells has none: an arrow,
 /// a template, a chain, a shorthand, the head of a `for`, an import or an export.
-pub fn parts(form: Form) -> &'static [Part] {
+pub fn parts(form: Form) -> &'static [Part]
+    ensures { result.now ≡ spec.parts form }
+{
     match form {
         Form::Name => &[Part::Name],
         Form::AnyName => &[Part::AnyName],
@@ -131,7 +136,9 @@ pub fn parts(form: Form) -> &'static [Part] {
     }
 }
 
-fn pattern_parts(form: Form) -> &'static [Part] {
+fn pattern_parts(form: Form) -> &'static [Part]
+    ensures { result.now ≡ spec.pattern_parts form }
+{
     match form {
         Form::ArrayPattern => &[
             Part::Mark(Punctuator::OpenBracket),
@@ -164,7 +171,9 @@ fn pattern_parts(form: Form) -> &'static [Part] {
     }
 }
 
-fn function_parts(form: Form) -> &'static [Part] {
+fn function_parts(form: Form) -> &'static [Part]
+    ensures { result.now ≡ spec.function_parts form }
+{
     match form {
         Form::Function(_) => &[
             Part::Async,
@@ -203,7 +212,9 @@ fn function_parts(form: Form) -> &'static [Part] {
 }
 
 // What stands behind a method's key.
-fn method_parts(access: Access, flow: Flow) -> &'static [Part] {
+fn method_parts(access: Access, flow: Flow) -> &'static [Part]
+    ensures { result.now ≡ spec.method_parts access flow }
+{
     match access {
         Access::Get => &[child!(Category::Getter, 0, Scope::Same)],
         Access::Set => &[child!(Category::Setter, 0, Scope::Same)],
@@ -218,7 +229,9 @@ fn method_parts(access: Access, flow: Flow) -> &'static [Part] {
     }
 }
 
-fn class_parts(form: Form) -> &'static [Part] {
+fn class_parts(form: Form) -> &'static [Part]
+    ensures { result.now ≡ spec.class_parts form }
+{
     match form {
         Form::Class => &[
             Part::Word(Word::Class),
@@ -252,7 +265,9 @@ fn class_parts(form: Form) -> &'static [Part] {
     }
 }
 
-fn operation_parts(form: Form) -> &'static [Part] {
+fn operation_parts(form: Form) -> &'static [Part]
+    ensures { result.now ≡ spec.operation_parts form }
+{
     match form {
         Form::Tagged => &[child!(Category::Template, 0, Scope::Same)],
         Form::Dot(Link::Plain) => &[
@@ -289,12 +304,12 @@ fn operation_parts(form: Form) -> &'static [Part] {
         Form::NewTarget => &[
             Part::Word(Word::New),
             Part::Mark(Punctuator::Dot),
-            Part::Spelled("target"),
+            Part::Spelled(MetaWord::Target),
         ],
         Form::ImportMeta => &[
             Part::Word(Word::Import),
             Part::Mark(Punctuator::Dot),
-            Part::Spelled("meta"),
+            Part::Spelled(MetaWord::Meta),
         ],
         Form::Prefix(_) => &[Part::Operator, child!(Category::Target, 15, Scope::Same)],
         Form::Postfix(_) => &[Part::Operator],
@@ -331,7 +346,9 @@ fn operation_parts(form: Form) -> &'static [Part] {
     }
 }
 
-fn statement_parts(form: Form) -> &'static [Part] {
+fn statement_parts(form: Form) -> &'static [Part]
+    ensures { result.now ≡ spec.statement_parts form }
+{
     match form {
         Form::Block => &[BRACE, Part::Row(ITEM, Punctuator::CloseBrace)],
         Form::FunctionBody => &[BRACE, Part::Directives(ITEM, Punctuator::CloseBrace)],
@@ -378,7 +395,9 @@ fn statement_parts(form: Form) -> &'static [Part] {
     }
 }
 
-fn variable_parts(variable: Variable) -> &'static [Part] {
+fn variable_parts(variable: Variable) -> &'static [Part]
+    ensures { result.now ≡ spec.variable_parts variable }
+{
     match variable {
         Variable::Var => &[Part::Word(Word::Var), Part::Declarators, Part::End],
         Variable::Let => &[Part::Word(Word::Let), Part::Declarators, Part::End],
@@ -386,7 +405,9 @@ fn variable_parts(variable: Variable) -> &'static [Part] {
     }
 }
 
-fn block_parts(form: Form) -> &'static [Part] {
+fn block_parts(form: Form) -> &'static [Part]
+    ensures { result.now ≡ spec.block_parts form }
+{
     match form {
         Form::Switch => &[
             Part::Word(Word::Switch),

@@ -4,14 +4,16 @@
 //! A broken element, or want of memory, is kept too: the next token is then `End`, nothing moves any
 //! more, and each refusal is that one.
 
-ghost use Rattle.std.specs.Prelude.{◌≡◌, ◌≢◌, ◌<◌, ◌≤◌, [], ◌++◌, length, drop, slice_index, slice_range, true, false, IsTrue, IfOk, OnOk, OnErr, Some, None, is_some};
+ghost use Rattle.std.specs.Prelude.{◌≡◌, ◌≢◌, ◌+◌, ◌<◌, ◌≤◌, [], ◌++◌, length, drop, slice_index, slice_range, true, false, IsTrue, IfOk, OnOk, OnErr, Some, None, is_some};
 ghost use Rattle.js_lexer.specs.Cursors as spec;
 ghost use Rattle.js_lexer.specs.Cursors.{SpansFit, SpanFits, FoundFrom};
+ghost use Rattle.js_lexer.specs.Blanks.{blank_len, comment_len, gap_len};
 ghost use Rattle.js_lexer.specs.Scan.{gap_at};
 
 use crate::blanks::{blank_len, comment_len};
 use crate::fault::{LexFault, Refusal, SyntaxFault, SyntaxKind};
-use crate::scan::{Gap, gap_at, next, token_at};
+use crate::parts::has_byte;
+use crate::scan::{Gap, gap_to, next, token_at};
 use cm_text::Source;
 use js_tokens::{Goal, Punctuator, Token, TokenKind, Word};
 use sqlite_items::Items;
@@ -73,47 +75,66 @@ fn no_memory(at: u32) -> Ahead
     }
 }
 
-// Keeps the comment that may begin at the offset.
+// Keeps the comment that may begin at the offset. Its length, 0 where there is none.
 #[tactic(auto, unfolding(crate::specs::Cursors::comment_at))]
-fn keep_comment(comments: &mut CommentSpans, text: &[u8], at: usize) -> Result<(), AllocError>
+fn keep_comment(comments: &mut CommentSpans, text: &[u8], at: usize) -> Result<usize, AllocError>
     requires short { length text.now ≤ 2097152 }
     requires within { at ≤ length text.now }
     requires fit { SpansFit (length text.now) comments.old }
+    ensures len { IfOk result (λ len. len ≡ comment_len (drop at text.now)) }
     ensures kept { OnOk result (comments.new ≡ comments.old ++ spec.comment_at at (drop at text.now)) }
+    ensures none { IfOk result (λ len. len ≡ 0 → comments.new ≡ comments.old) }
     ensures still_fit { SpansFit (length text.now) comments.new }
 {
     let len = comment_len(&text[at..]);
     if len == 0 {
-        return Ok(());
+        return Ok(0);
     }
     let start = at as u32;
     let end = start + len as u32;
-    comments.push(Span { start, end })
+    comments.push(Span { start, end })?;
+    Ok(len)
 }
 
-// Keeps the comments among the blanks from the offset on.
+// Keeps the comment that may begin at the offset. The length of the blank or comment there, 0 where
+// there is none.
+#[tactic(auto, using(crate::proofs::Kept::slash_len, crate::proofs::Kept::no_comment))]
+fn pass_blank(comments: &mut CommentSpans, text: &[u8], at: usize) -> Result<usize, AllocError>
+    requires short { length text.now ≤ 2097152 }
+    requires within { at ≤ length text.now }
+    requires fit { SpansFit (length text.now) comments.old }
+    ensures len { IfOk result (λ len. len ≡ blank_len (drop at text.now)) }
+    ensures kept { OnOk result (comments.new ≡ comments.old ++ spec.comment_at at (drop at text.now)) }
+    ensures none { IfOk result (λ len. len ≡ 0 → comments.new ≡ comments.old) }
+    ensures still_fit { SpansFit (length text.now) comments.new }
+{
+    let rest = &text[at..];
+    if !has_byte(rest, 0, b'/') {
+        return Ok(blank_len(rest));
+    }
+    keep_comment(comments, text, at)
+}
+
+// Keeps the comments among the blanks from the offset on. Where these end.
 #[tactic(auto, using(crate::proofs::Kept::keeping_comments))]
-fn keep_comments(comments: &mut CommentSpans, text: &[u8], from: usize) -> Result<(), AllocError>
+fn keep_comments(comments: &mut CommentSpans, text: &[u8], from: usize) -> Result<usize, AllocError>
     requires short { length text.now ≤ 2097152 }
     requires within { from ≤ length text.now }
     requires fit { SpansFit (length text.now) comments.old }
     ensures kept { OnOk result (comments.new ≡ comments.old ++ spec.comments_from 0 from (drop from text.now)) }
+    ensures end { IfOk result (λ end. end ≡ from + gap_len (drop from text.now)) }
+    ensures within { IfOk result (λ end. end ≤ length text.now) }
     ensures still_fit { SpansFit (length text.now) comments.new }
 {
-    let mut skip = 0;
-    for at in from..text.len() {
-        if skip > 0 {
-            skip -= 1;
-            continue;
-        }
-        let len = blank_len(&text[at..]);
+    let mut at = from;
+    while at < text.len() {
+        let len = pass_blank(comments, text, at)?;
         if len == 0 {
-            return Ok(());
+            return Ok(at);
         }
-        keep_comment(comments, text, at)?;
-        skip = len - 1;
+        at += len.min(text.len() - at);
     }
-    Ok(())
+    Ok(at)
 }
 
 // Keeps the comments behind the offset, and reads the token behind them.
@@ -127,7 +148,7 @@ fn pass_blanks(comments: &mut CommentSpans, text: &[u8], from: u32) -> Ahead
     ensures still_fit { SpansFit (length text.now) comments.new }
 {
     match keep_comments(comments, text, from as usize) {
-        Ok(()) => look_ahead(text, gap_at(text, from), Goal::Div),
+        Ok(end) => look_ahead(text, gap_to(text, from, end), Goal::Div),
         Err(AllocError) => no_memory(from),
     }
 }

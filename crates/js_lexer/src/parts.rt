@@ -5,8 +5,8 @@ ghost use Rattle.std.specs.Prelude.{◌≡◌, ◌<◌, ◌≤◌, length, IsTru
 ghost use Rattle.js_lexer.specs.Parts as spec;
 
 use js_tokens::{
-    Piece, byte_at, character, continues_name, hex_digit, starts_name, string_escape,
-    unicode_escape,
+    Piece, byte_at, character, continues_name, hex_digit, is_ascii_part, is_ascii_start,
+    starts_name, string_escape, unicode_escape,
 };
 
 /// What stands in a row.
@@ -69,9 +69,9 @@ fn name_piece(rest: &[u8]) -> Option<Piece>
     Some(character(rest))
 }
 
-/// The length of the character or escape with which a name begins, 0 where none does.
+// As `name_start_len`, with the whole of Unicode in sight.
 #[tactic(auto, unfolding(crate::specs::Parts::name_start_len))]
-pub fn name_start_len(rest: &[u8]) -> usize
+fn any_start_len(rest: &[u8]) -> usize
     ensures { result ≡ spec.name_start_len rest.now }
 {
     let Some(piece) = name_piece(rest) else {
@@ -83,8 +83,21 @@ pub fn name_start_len(rest: &[u8]) -> usize
     if starts_name(code) { piece.len } else { 0 }
 }
 
+/// The length of the character or escape with which a name begins, 0 where none does.
+#[tactic(auto, using(crate::proofs::Names::ascii_start_len))]
+pub fn name_start_len(rest: &[u8]) -> usize
+    ensures { result ≡ spec.name_start_len rest.now }
+{
+    let first = byte_at(rest, 0);
+    if first >= 0x80 || first == b'\\' {
+        return any_start_len(rest);
+    }
+    if is_ascii_start(first) { 1 } else { 0 }
+}
+
+// As `name_part_len`, with the whole of Unicode in sight.
 #[tactic(auto, unfolding(crate::specs::Parts::name_part_len))]
-fn name_part_len(rest: &[u8]) -> usize
+fn any_part_len(rest: &[u8]) -> usize
     ensures { result ≡ spec.name_part_len rest.now }
 {
     let Some(piece) = name_piece(rest) else {
@@ -94,6 +107,17 @@ fn name_part_len(rest: &[u8]) -> usize
         return 0;
     };
     if continues_name(code) { piece.len } else { 0 }
+}
+
+#[tactic(auto, using(crate::proofs::Names::ascii_part_len))]
+fn name_part_len(rest: &[u8]) -> usize
+    ensures { result ≡ spec.name_part_len rest.now }
+{
+    let first = byte_at(rest, 0);
+    if first >= 0x80 || first == b'\\' {
+        return any_part_len(rest);
+    }
+    if is_ascii_part(first) { 1 } else { 0 }
 }
 
 #[tactic(auto, unfolding(crate::specs::Parts::digit_len))]
@@ -192,6 +216,7 @@ fn block_comment_part_len(rest: &[u8]) -> usize
 }
 
 /// The length of the part with which the bytes begin, 0 where they begin with none.
+#[inline(always)]
 #[tactic(auto, unfolding(crate::specs::Parts::part_len))]
 pub fn part_len(part: Part, rest: &[u8]) -> usize
     requires { 0 < length rest.now }
@@ -210,6 +235,7 @@ pub fn part_len(part: Part, rest: &[u8]) -> usize
 }
 
 /// Where the row of parts ends that begins at `from`.
+#[inline(always)]
 #[tactic(auto, using(crate::proofs::Rows::walking_rows))]
 pub fn run(part: Part, rest: &[u8], from: usize) -> usize
     ensures value { result ≡ spec.run part from rest.now }

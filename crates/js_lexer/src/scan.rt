@@ -1,6 +1,7 @@
 //! The next token of a text.
 
-ghost use Rattle.std.specs.Prelude.{◌≡◌, ◌+◌, ◌<◌, ◌≤◌, length, IfOk, IfErr};
+ghost use Rattle.std.specs.Prelude.{◌≡◌, ◌+◌, ◌<◌, ◌≤◌, length, drop, IfOk, IfErr};
+ghost use Rattle.js_lexer.specs.Blanks.{gap_len};
 ghost use Rattle.js_lexer.specs.Scan as spec;
 ghost use Rattle.js_lexer.specs.Scan.{LiesIn};
 
@@ -17,6 +18,22 @@ pub struct Gap {
     pub broken: bool,
 }
 
+/// The blanks and comments from the offset on, which end there.
+pub fn gap_to(text: &[u8], at: u32, end: usize) -> Gap
+    requires short { length text.now ≤ 2097152 }
+    requires within { at ≤ length text.now }
+    requires end { end ≡ at + gap_len (drop at text.now) }
+    requires ends { end ≤ length text.now }
+    ensures value { result ≡ spec.gap_at text.now at }
+    ensures order { at ≤ result.end }
+    ensures ends { result.end ≤ length text.now }
+{
+    Gap {
+        end: end as u32,
+        broken: has_line_end(&text[at as usize..end]),
+    }
+}
+
 /// The blanks and comments from the offset on.
 pub fn gap_at(text: &[u8], at: u32) -> Gap
     requires short { length text.now ≤ 2097152 }
@@ -25,12 +42,8 @@ pub fn gap_at(text: &[u8], at: u32) -> Gap
     ensures order { at ≤ result.end }
     ensures ends { result.end ≤ length text.now }
 {
-    let rest = &text[at as usize..];
-    let len = gap_len(rest);
-    Gap {
-        end: at + len as u32,
-        broken: has_line_end(&rest[..len]),
-    }
+    let len = gap_len(&text[at as usize..]);
+    gap_to(text, at, at as usize + len)
 }
 
 fn token(start: u32, found: Element, broken_before: bool) -> Token

@@ -1,5 +1,5 @@
 -- The words that the grammar knows by name (ECMA-262, clause 12.7.2).
-use Rattle.std.specs.Prelude.{ℕ, Bool, true, false, List, [], ◌∷◌, codes, bytes_eq, if◌then◌else◌}
+use Rattle.std.specs.Prelude.{ℕ, Bool, true, false, List, [], ◌∷◌, ◌==◌, codes, bytes_eq, if◌then◌else◌}
 use Rattle.js_tokens.specs.declared.word.Word.{Word}
 use Rattle.js_tokens.specs.declared.word.Word.TheVariants.{Plain, Await, Break, Case, Catch, Class, Const, Continue, Debugger, Default, Delete, Do, Else, Enum, Export, Extends, False, Finally, For, Function, If, Import, In, Instanceof, New, Null, Return, Super, Switch, This, Throw, True, Try, Typeof, Var, Void, While, With, Yield, Let, Async, From, Of, Get, Set, Static}
 use Rattle.js_tokens.specs.declared.word.TheConstants.{WORDS}
@@ -111,6 +111,28 @@ reserved Get = false
 reserved Set = false
 reserved Static = false
 reserved _ = true
+
+-- the words that begin with the byte
+abbrev pub words_on : ℕ → List Word
+words_on first =
+    if first == 0x61 then Await ∷ Async ∷ []
+    else (if first == 0x62 then Break ∷ []
+    else (if first == 0x63 then Case ∷ Catch ∷ Class ∷ Const ∷ Continue ∷ []
+    else (if first == 0x64 then Debugger ∷ Default ∷ Delete ∷ Do ∷ []
+    else (if first == 0x65 then Else ∷ Enum ∷ Export ∷ Extends ∷ []
+    else (if first == 0x66 then False ∷ Finally ∷ For ∷ Function ∷ From ∷ []
+    else (if first == 0x67 then Get ∷ []
+    else (if first == 0x69 then If ∷ Import ∷ In ∷ Instanceof ∷ []
+    else (if first == 0x6C then Let ∷ []
+    else (if first == 0x6E then New ∷ Null ∷ []
+    else (if first == 0x6F then Of ∷ []
+    else (if first == 0x72 then Return ∷ []
+    else (if first == 0x73 then Super ∷ Switch ∷ Set ∷ Static ∷ []
+    else (if first == 0x74 then This ∷ Throw ∷ True ∷ Try ∷ Typeof ∷ []
+    else (if first == 0x76 then Var ∷ Void ∷ []
+    else (if first == 0x77 then While ∷ With ∷ []
+    else (if first == 0x79 then Yield ∷ []
+    else []))))))))))))))))
 
 -- the first of these words that is spelled as the name, `Plain` where none is
 abbrev pub first_spelled : List Word → List ℕ → Word

@@ -1,6 +1,6 @@
 //! Characters in UTF-8, and which of them make names (ECMA-262, clause 12.7).
 
-ghost use Rattle.std.specs.Prelude.{◌≡◌, ◌<◌, ◌≤◌, ◌^◌, slice_index};
+ghost use Rattle.std.specs.Prelude.{◌≡◌, ◌<◌, ◌≤◌, ◌^◌, ◌&&◌, nat_lt, slice_index};
 ghost use Rattle.js_tokens.specs.Characters.{low_six, char_len, first_char, starts_name, continues_name};
 
 /// The byte at the offset, 0 past the end.
@@ -79,4 +79,26 @@ pub fn continues_name(code: u32) -> bool
         Some(c) => unicode_ident::is_xid_continue(c),
         None => false,
     }
+}
+
+/// Whether the byte is an ASCII character with which a name may begin.
+#[tactic(auto, using(crate::proofs::NameLemmas::ascii_start))]
+pub fn is_ascii_start(byte: u8) -> bool
+    ensures { result ≡ (nat_lt byte 0x80 && starts_name byte) }
+{
+    if byte >= 0x80 {
+        return false;
+    }
+    (byte == b'$') | (byte == b'_') | byte.is_ascii_alphabetic()
+}
+
+/// Whether the byte is an ASCII character with which a name may go on.
+#[tactic(auto, using(crate::proofs::NameLemmas::ascii_part))]
+pub fn is_ascii_part(byte: u8) -> bool
+    ensures { result ≡ (nat_lt byte 0x80 && continues_name byte) }
+{
+    if byte >= 0x80 {
+        return false;
+    }
+    (byte == b'$') | byte.is_ascii_alphanumeric() | (byte == b'_')
 }

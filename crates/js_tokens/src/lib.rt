@@ -12,7 +12,9 @@ mod text;
 mod token;
 mod word;
 
-pub use code_point::{byte_at, char_len, continues_name, first_char, starts_name};
+pub use code_point::{
+    byte_at, char_len, continues_name, first_char, is_ascii_part, is_ascii_start, starts_name,
+};
 pub use cook::{cook_string, cook_template, is_reserved, name_of, units};
 pub use fault::CookFault;
 pub use piece::{Piece, character, hex_digit, string_escape, template_escape, unicode_escape};

@@ -1,7 +1,9 @@
 //! The words that the grammar knows by name.
 
-ghost use Rattle.js_tokens.specs.Words.{word_spelling, word_number, reserved, first_spelled, word_of};
+ghost use Rattle.js_tokens.specs.Words.{word_spelling, word_number, reserved, words_on, first_spelled, word_of};
 ghost use Rattle.std.specs.Prelude.{◌≡◌, bytes_eq};
+
+use crate::code_point::byte_at;
 
 /// A word of the grammar: the reserved words of ECMA-262, clause 12.7.2, with `let`, and then those
 /// that have a meaning at some places alone.
@@ -232,10 +234,11 @@ impl Word {
     }
 
     /// The word that the bytes of a name spell, `Plain` where they spell none.
+    #[tactic(auto, using(crate::proofs::WordLemmas::words_on_enough))]
     pub fn of(name: &[u8]) -> Word
         ensures { result ≡ word_of name.now }
     {
-        first_spelled(&WORDS, name)
+        first_spelled(words_on(byte_at(name, 0)), name)
     }
 
     /// The word that the code units of a name spell, `Plain` where they spell none.
@@ -243,6 +246,44 @@ impl Word {
         ensures { result ≡ word_of name.now }
     {
         first_spelled_units(&WORDS, name)
+    }
+}
+
+// The words that begin with the byte.
+fn words_on(first: u8) -> &'static [Word]
+    ensures { result.now ≡ words_on first }
+{
+    match first {
+        b'a' => &[Word::Await, Word::Async],
+        b'b' => &[Word::Break],
+        b'c' => &[
+            Word::Case,
+            Word::Catch,
+            Word::Class,
+            Word::Const,
+            Word::Continue,
+        ],
+        b'd' => &[Word::Debugger, Word::Default, Word::Delete, Word::Do],
+        b'e' => &[Word::Else, Word::Enum, Word::Export, Word::Extends],
+        b'f' => &[
+            Word::False,
+            Word::Finally,
+            Word::For,
+            Word::Function,
+            Word::From,
+        ],
+        b'g' => &[Word::Get],
+        b'i' => &[Word::If, Word::Import, Word::In, Word::Instanceof],
+        b'l' => &[Word::Let],
+        b'n' => &[Word::New, Word::Null],
+        b'o' => &[Word::Of],
+        b'r' => &[Word::Return],
+        b's' => &[Word::Super, Word::Switch, Word::Set, Word::Static],
+        b't' => &[Word::This, Word::Throw, Word::True, Word::Try, Word::Typeof],
+        b'v' => &[Word::Var, Word::Void],
+        b'w' => &[Word::While, Word::With],
+        b'y' => &[Word::Yield],
+        _ => &[],
     }
 }
 

@@ -1,0 +1,1 @@
+module.exports = (file, api) => api.jscodeshift(file.source).toSource();

@@ -1,0 +1,4 @@
+pub mod Callable
+pub mod Looks
+pub mod Refusals
+pub mod Seats

@@ -1,0 +1,122 @@
+//! Whole programs.
+
+ghost use Rattle.std.specs.Prelude.{◌≡◌, ◌≤◌, length, IfErr, IfOk};
+ghost use Rattle.tree_core.specs.Height.{height};
+ghost use Rattle.tree_core.specs.View.{syntax};
+ghost use Rattle.js_parser.specs.Callable.{Callable};
+ghost use Rattle.js_parser.specs.Refusals.{RefusedWithin};
+
+use crate::grammar::{Grammar, node};
+use crate::grown::{Children, Grown, Parts};
+use crate::reader::{Quasi, Reader};
+use crate::want::{Context, Want};
+use cm_text::Source;
+use js_forms::{Category, Form};
+use js_lexer::{Cursor, Refusal, SyntaxFault, SyntaxKind};
+use js_tokens::TokenKind;
+use sqlite_items::Items;
+use std::alloc::Global;
+use tree_core::{Scalar, Tree, height};
+
+/// How deep nodes and grouping parentheses nest at most.
+pub const MOST_LEVELS: u32 = 1000;
+
+/// A tree that was read, and the cursor that has the stretches of its nodes by their numbers.
+#[derive(Drop)]
+pub struct Read<'a> {
+    pub tree: Tree,
+    pub cursor: Cursor<'a>,
+    /// The characters of templates. Their stretches have the marks around them.
+    pub quasis: Items<Quasi>,
+}
+
+impl<F: Fn(Global, &mut Reader<'_>, u32, Want) -> Result<Grown, Refusal>> Grammar<F> {
+    // The statements up to the end of the text.
+    fn program_body(&self, reader: &mut Reader<'_>) -> Result<Children, Refusal>
+        requires { Callable self.now.depth (F.pre self.now.node) }
+    {
+        let want = Context::outermost().want(Category::ModuleItem, 0);
+        let mut found = Children::new(self.alloc);
+        let mut directives = true;
+        for _turn in 0..reader.cursor.turns() {
+            if matches!(reader.cursor.kind(), TokenKind::End) {
+                return Ok(found);
+            }
+            let item = self.item(reader, want, directives)?;
+            directives = directives && matches!(item.form, Form::Directive);
+            found.push(item)?;
+        }
+        Ok(found)
+    }
+}
+
+// The tree of the text from the offset on.
+fn read_from(
+    alloc: Global,
+    source: &Source,
+    from: u32,
+    interpreter: Scalar,
+) -> Result<Read<'_>, Refusal> {
+    let from = from.min(source.bytes().len() as u32);
+    let mut reader = Reader::new(alloc, Cursor::new(alloc, source, from));
+    let grammar = Grammar {
+        alloc,
+        depth: MOST_LEVELS - 1,
+        node,
+    };
+    let body = grammar.program_body(&mut reader)?;
+    if !reader.cursor.is_done() {
+        return Err(reader.cursor.refuse());
+    }
+    let mut read = Parts::new(alloc, Form::Program)?;
+    read.push_scalar(alloc, interpreter)?;
+    read.push_list(body)?;
+    let whole = grammar.finish(&mut reader, Form::Program, from, read)?;
+    Ok(Read {
+        tree: whole.tree.into_inner(),
+        cursor: reader.cursor,
+        quasis: reader.quasis,
+    })
+}
+
+// The refusal, at a place within the text.
+fn within(refusal: Refusal, len: u32) -> Refusal
+    ensures { RefusedWithin len result }
+{
+    match refusal {
+        Refusal::NoMemory => Refusal::NoMemory,
+        Refusal::Syntax(SyntaxFault { at, kind }) => Refusal::Syntax(SyntaxFault {
+            at: at.min(len),
+            kind,
+        }),
+    }
+}
+
+/// The tree of the text from the offset on, with the first line's text as its interpreter.
+///
+/// That the cursor is one over this text, and how high the tree is, hold by the way it is read. No
+/// clause of the rules carries that up to here, so it is looked at once more.
+pub fn program(
+    alloc: Global,
+    source: &Source,
+    from: u32,
+    interpreter: Scalar,
+) -> Result<Read<'_>, Refusal>
+    ensures refused { IfErr result (RefusedWithin (length source.now)) }
+    ensures text { IfOk result (λ read. length read.cursor.text ≡ length source.now) }
+    ensures low { IfOk result (λ read. height (syntax read.tree) ≤ 1000) }
+{
+    let len = source.bytes().len();
+    match read_from(alloc, source, from, interpreter) {
+        Err(refusal) => Err(within(refusal, len as u32)),
+        Ok(read) => {
+            let fits = read.cursor.source().bytes().len() == len;
+            if fits && height(&read.tree) <= MOST_LEVELS {
+                return Ok(read);
+            }
+            let at = len as u32;
+            let kind = SyntaxKind::Nesting;
+            Err(Refusal::Syntax(SyntaxFault { at, kind }))
+        }
+    }
+}
