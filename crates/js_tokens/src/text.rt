@@ -93,7 +93,7 @@ fn push_piece(units: &mut Vec<u16>, piece: Piece) -> Result<(), AllocError>
 pub fn plain_units(alloc: Global, how: Spelled, raw: &[u8]) -> Result<Units, AllocError>
     ensures { IfOk result (λ units. units ≡ plain_units how 0 raw.now) }
 {
-    let mut units = Vec::new(alloc);
+    let mut units = Vec::with_capacity(alloc, raw.len())?;
     let mut at = 0;
     while at < raw.len() {
         let piece = plain_piece(how, &raw[at..]);
