@@ -60,6 +60,7 @@ pub fn comment_len(rest: &[u8]) -> usize
 /// The length of the white space character, line end or comment with which the bytes begin, 0 where
 /// none does.
 #[tactic(auto, unfolding(crate::specs::Blanks::blank_len))]
+#[inline(always)]
 pub fn blank_len(rest: &[u8]) -> usize
     ensures { result ≡ spec.blank_len rest.now }
 {

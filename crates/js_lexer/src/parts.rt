@@ -110,6 +110,7 @@ fn any_part_len(rest: &[u8]) -> usize
 }
 
 #[tactic(auto, using(crate::proofs::Names::ascii_part_len))]
+#[inline(always)]
 fn name_part_len(rest: &[u8]) -> usize
     ensures { result ≡ spec.name_part_len rest.now }
 {
