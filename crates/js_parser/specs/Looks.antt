@@ -1,11 +1,12 @@
 -- What the next token may begin or end.
 use Rattle.std.specs.Prelude.{Bool, true, false, not, ◌||◌, ◌&&◌}
 use Rattle.js_tokens.specs.Words.{reserved}
-use Rattle.js_tokens.specs.declared.punctuator.Punctuator.TheVariants.{Arrow, CloseBrace, Slash, SlashAssign}
+use Rattle.js_tokens.specs.declared.punctuator.Punctuator.TheVariants.{Arrow, Slash, SlashAssign}
 use Rattle.js_tokens.specs.declared.token.TemplatePart.TheVariants.{Whole, Head}
 use Rattle.js_tokens.specs.declared.token.TokenKind.{TokenKind}
 use Rattle.js_tokens.specs.declared.token.TokenKind.TheVariants as token
-use Rattle.js_lexer.specs.Cursors.{Input, is_end, is_mark}
+use Rattle.js_lexer.specs.Cursors.{Input, is_mark}
+use Rattle.asi_rules.specs.Semicolons.{may_end}
 
 -- a name that is no reserved word
 abbrev pub is_name : TokenKind → Bool
@@ -23,7 +24,7 @@ begins_regex kind = is_mark kind Slash || is_mark kind SlashAssign
 
 -- a `;` may be missing before the next token (ECMA-262, clause 12.10.1)
 abbrev pub ends_statement : Input → Bool
-ends_statement i = i.token.broken_before || is_end i.token.kind || is_mark i.token.kind CloseBrace
+ends_statement i = may_end i.token.broken_before i.token.kind
 
 -- `=>` on the same line
 abbrev pub begins_arrow : Input → Bool

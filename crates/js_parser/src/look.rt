@@ -5,6 +5,7 @@ ghost use Rattle.js_lexer.specs.Cursors as cursors;
 ghost use Rattle.js_parser.specs.Looks as spec;
 
 use crate::want::{Context, Want};
+use asi_rules::may_end;
 use js_forms::{Category, Flow, Form, Operator, Sort, unary};
 use js_lexer::Cursor;
 use js_tokens::{Goal, Punctuator, TemplatePart, Token, TokenKind, Word};
@@ -48,15 +49,6 @@ pub fn second_is_mark(cursor: &Cursor<'_>, mark: Punctuator) -> bool {
     match second(cursor) {
         Some(token) => !token.broken_before && is_mark(token.kind, mark),
         None => false,
-    }
-}
-
-fn is_end(kind: TokenKind) -> bool
-    ensures { result ≡ cursors.is_end kind }
-{
-    match kind {
-        TokenKind::End => true,
-        _ => false,
     }
 }
 
@@ -120,7 +112,7 @@ pub fn function_flow(cursor: &Cursor<'_>) -> Flow {
 pub fn ends_statement(cursor: &Cursor<'_>) -> bool
     ensures { result ≡ spec.ends_statement cursor.now }
 {
-    cursor.line_end_before() || is_end(cursor.kind()) || cursor.sees_mark(Punctuator::CloseBrace)
+    may_end(cursor.line_end_before(), cursor.kind())
 }
 
 /// The literal that the token is.
