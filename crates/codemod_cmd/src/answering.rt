@@ -18,7 +18,7 @@ use std::alloc::{AllocError, Global};
 use tree_core::Parsed;
 
 /// What the reader of the first grammar makes of a source.
-#[derive(Debug, Drop)]
+#[derive(Drop)]
 pub enum Reading {
     First(Parsed),
     /// It is no tree of that grammar.

@@ -1,10 +1,10 @@
 //! What a renaming makes of a source.
 
-ghost use Rattle.std.specs.Prelude.{◌≡◌, ◌≢◌, ◌≤◌, length, IfOk};
+ghost use Rattle.std.specs.Prelude.{◌≡◌, IfOk};
 ghost use Rattle.tree_core.specs.View.{syntax};
-ghost use Rattle.first_rename.specs.Names.{IsPlainName};
 ghost use Rattle.codemod_cmd.specs.Script.{renames};
 ghost use Rattle.codemod_cmd.specs.FileAnswer.{FileAnswer, IsSource, IsTreeOf, IsOther, IsParsed};
+ghost use Rattle.codemod_cmd.specs.Readings.{IsTold};
 
 use crate::engine::Outcome;
 use crate::script::Renaming;
@@ -32,8 +32,7 @@ fn list_long(alloc: Global) -> Outcome
 // The row of a new text.
 fn told(source: &[u8], text: Vec<u8>) -> Outcome
     ensures text { result.text.items ≡ text.items }
-    ensures same { text.items ≡ source.now → result.answer ≡ RowAnswer.Unmodified }
-    ensures other { text.items ≢ source.now → result.answer ≡ RowAnswer.Ok }
+    ensures answer { IsTold source.now text.items result.answer }
 {
     let answer = if text.as_slice() == source {
         RowAnswer::Unmodified
