@@ -1,7 +1,7 @@
 //! What stands before the first token of a source: a byte order mark, and a line that names an
 //! interpreter (ECMA-262, 14th edition, clause 12.5).
 
-ghost use Rattle.std.specs.Prelude.{◌≡◌, ◌≤◌, length, IfOk};
+ghost use Rattle.std.specs.Prelude.{◌≤◌};
 
 use crate::lines::line_len;
 use js_tokens::{byte_at, units};
@@ -16,7 +16,9 @@ pub struct Front {
 }
 
 // The length of U+FEFF, if the text begins with it.
-fn mark_len(text: &[u8]) -> usize {
+fn mark_len(text: &[u8]) -> usize
+    ensures { result ≤ 3 }
+{
     if byte_at(text, 0) == 0xEF && byte_at(text, 1) == 0xBB && byte_at(text, 2) == 0xBF {
         return 3;
     }

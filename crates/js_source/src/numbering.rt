@@ -9,7 +9,6 @@ ghost use Rattle.js_source.specs.Sizes.{node_count, slots_nodes, places_nodes, p
 use crate::attached::{Attached, Side, comments};
 use crate::seating::Laid;
 use crate::waiting::Waiting;
-use js_lexer::{Refusal, SyntaxFault, SyntaxKind};
 use sqlite_items::{Boxed, Items};
 use std::alloc::{AllocError, Global};
 use std::mem;
@@ -139,13 +138,7 @@ fn closed(
     Boxed::new(alloc, tree)
 }
 
-// That the text nests too deep.
-fn too_deep(len: u32) -> Refusal {
-    let kind = SyntaxKind::Nesting;
-    Refusal::Syntax(SyntaxFault { at: len, kind })
-}
-
-// The node, with no more than `depth` levels.
+// The node, with no more than `depth` levels. The reader gives no tree that is higher than its limit.
 #[cycle(numbering)]
 fn number_node(
     given: &Given<'_>,
@@ -153,7 +146,7 @@ fn number_node(
     waiting: &mut Waiting,
     depth: u32,
     tree: Boxed<Tree>,
-) -> Result<Boxed<Tree>, Refusal>
+) -> Result<Boxed<Tree>, AllocError>
     ensures nodes { IfOk result (λ t. length numbered.new.spans ≡ length numbered.old.spans + node_count (syntax t)) }
     ensures places { IfOk result (λ t. numbered.new.places ≡ numbered.old.places + place_count (syntax t)) }
     ensures low { IfOk result (λ t. height (syntax t) ≤ depth) }
@@ -161,11 +154,11 @@ fn number_node(
     ensures len { numbered.new.len ≡ numbered.old.len }
 {
     if depth == 0 {
-        return Err(too_deep(numbered.len));
+        return Err(AllocError);
     }
     let (tree, slots, number) = opened(given, numbered, tree)?;
     let slots = number_slots(given, numbered, waiting, depth - 1, number, slots)?;
-    Ok(closed(given.alloc, tree, slots, number)?)
+    closed(given.alloc, tree, slots, number)
 }
 
 // The slots of the node.
@@ -177,7 +170,7 @@ fn number_slots(
     depth: u32,
     node: u32,
     slots: Items<Slot>,
-) -> Result<Items<Slot>, Refusal>
+) -> Result<Items<Slot>, AllocError>
     ensures nodes { IfOk result (λ all. length numbered.new.spans ≡ length numbered.old.spans + slots_nodes (slots_of (map slot_view all))) }
     ensures places { IfOk result (λ all. numbered.new.places ≡ numbered.old.places + slots_places (slots_of (map slot_view all))) }
     ensures low { IfOk result (λ all. slots_height (slots_of (map slot_view all)) ≤ depth) }
@@ -208,7 +201,7 @@ fn number_slot(
     node: u32,
     child: u32,
     slot: Slot,
-) -> Result<(Slot, u32), Refusal>
+) -> Result<(Slot, u32), AllocError>
     ensures nodes { IfOk result (λ r. length numbered.new.spans ≡ length numbered.old.spans + places_nodes (slot_view r.0).1) }
     ensures places { IfOk result (λ r. numbered.new.places ≡ numbered.old.places + all_places (slot_view r.0).1) }
     ensures low { IfOk result (λ r. places_height (slot_view r.0).1 ≤ depth) }
@@ -221,8 +214,9 @@ fn number_slot(
             Ok((Slot::Single(place), child.saturating_add(1)))
         }
         Slot::List(places) => {
-            let (places, next) =
-                number_places(given, numbered, waiting, depth, node, child, places)?;
+            let (places, next) = number_places(
+                given, numbered, waiting, depth, node, child, places,
+            )?;
             Ok((Slot::List(places), next))
         }
     }
@@ -238,7 +232,7 @@ fn number_places(
     node: u32,
     child: u32,
     places: Items<Place>,
-) -> Result<(Items<Place>, u32), Refusal>
+) -> Result<(Items<Place>, u32), AllocError>
     ensures nodes { IfOk result (λ r. length numbered.new.spans ≡ length numbered.old.spans + places_nodes (places_of (map place_view r.0))) }
     ensures places { IfOk result (λ r. numbered.new.places ≡ numbered.old.places + all_places (places_of (map place_view r.0))) }
     ensures low { IfOk result (λ r. places_height (places_of (map place_view r.0)) ≤ depth) }
@@ -269,7 +263,7 @@ fn number_place(
     depth: u32,
     name: PlaceName,
     place: Place,
-) -> Result<Place, Refusal>
+) -> Result<Place, AllocError>
     ensures nodes { IfOk result (λ p. length numbered.new.spans ≡ length numbered.old.spans + places_nodes (places_of (place_view p ∷ []))) }
     ensures places { IfOk result (λ p. numbered.new.places ≡ numbered.old.places + all_places (places_of (place_view p ∷ []))) }
     ensures low { IfOk result (λ p. places_height (places_of (place_view p ∷ [])) ≤ depth) }
@@ -290,7 +284,7 @@ fn number_place(
 }
 
 /// The tree with its nodes numbered, and their stretches by their new numbers.
-pub fn number(given: &Given<'_>, tree: Tree, levels: u32) -> Result<(Tree, Spans), Refusal>
+pub fn number(given: &Given<'_>, tree: Tree, levels: u32) -> Result<(Tree, Spans), AllocError>
     ensures fit { IfOk result (λ r. SpansFit (length given.now.laid.source.now) r.1) }
     ensures nodes { IfOk result (λ r. length r.1 ≡ node_count (syntax r.0)) }
     ensures few { IfOk result (λ r. node_count (syntax r.0) ≤ 4194304) }

@@ -30,8 +30,7 @@ fn attached(alloc: Global, laid: Laid<'_>, tree: &Tree) -> Result<Attached, Allo
 }
 
 // The tree with its numbers, place names and comments, and the stretches of its nodes by number.
-fn numbered(alloc: Global, laid: Laid<'_>, tree: Tree) -> Result<(Tree, Spans), Refusal>
-    ensures refused { IfErr result (RefusedWithin (length laid.source.now)) }
+fn numbered(alloc: Global, laid: Laid<'_>, tree: Tree) -> Result<(Tree, Spans), AllocError>
     ensures fit { IfOk result (λ r. SpansFit (length laid.source.now) r.1) }
     ensures nodes { IfOk result (λ r. length r.1 ≡ node_count (syntax r.0)) }
     ensures few { IfOk result (λ r. node_count (syntax r.0) ≤ 4194304) }
@@ -74,7 +73,11 @@ pub fn parse(alloc: Global, source: &Source) -> Result<Parsed, Refusal>
     } = read;
     let count = cursor.comments().len();
     let (spans, comments) = cursor.into_spans();
-    let spans = widened(narrowed(spans, quasis.as_slice()), tree.from, text.len() as u32);
+    let spans = widened(
+        narrowed(spans, quasis.as_slice()),
+        tree.from,
+        text.len() as u32,
+    );
     let laid = Laid {
         source,
         spans: spans.as_slice(),
