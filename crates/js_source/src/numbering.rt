@@ -140,6 +140,7 @@ fn closed(
 
 // The node, with no more than `depth` levels. The reader gives no tree that is higher than its limit.
 #[cycle(numbering)]
+#[inline(never)]
 fn number_node(
     given: &Given<'_>,
     numbered: &mut Numbered,
@@ -163,6 +164,7 @@ fn number_node(
 
 // The slots of the node.
 #[cycle(numbering)]
+#[inline(never)]
 fn number_slots(
     given: &Given<'_>,
     numbered: &mut Numbered,
@@ -224,6 +226,7 @@ fn number_slot(
 
 // The places of a list, of which the first is this child, and the number of the next child.
 #[cycle(numbering)]
+#[inline(never)]
 fn number_places(
     given: &Given<'_>,
     numbered: &mut Numbered,

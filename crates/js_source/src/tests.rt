@@ -66,6 +66,21 @@ fn numbers_in_preorder(rt: HostRuntime) -> Result<(), Fail> {
     Ok(())
 }
 
+#[test]
+fn numbers_deep_trees(rt: HostRuntime) -> Result<(), Fail> {
+    let mut text = String::new(rt.alloc());
+    for bracket in ["[", "]"] {
+        for _turn in 0..998 {
+            text.push_str(bracket)?;
+        }
+    }
+    match parsed(rt.alloc(), text.as_str())? {
+        Some(found) => assert!(rt; found.spans.len() == 1000),
+        None => assert!(rt; false),
+    }
+    Ok(())
+}
+
 // How many comments stand before, after and inside the node at the address.
 fn notes(
     alloc: Global,

@@ -31,7 +31,7 @@ fn attached(alloc: Global, laid: Laid<'_>, tree: &Tree) -> Result<Attached, Allo
 
 // The tree with its numbers, place names and comments, and the stretches of its nodes by number.
 fn numbered(alloc: Global, laid: Laid<'_>, tree: Tree) -> Result<(Tree, Spans), AllocError>
-    ensures fit { IfOk result (λ r. SpansFit (length laid.source.now) r.1) }
+    ensures fit { IfOk result (λ r. SpansFit (length laid.entry.source.now) r.1) }
     ensures nodes { IfOk result (λ r. length r.1 ≡ node_count (syntax r.0)) }
     ensures few { IfOk result (λ r. node_count (syntax r.0) ≤ 4194304) }
     ensures places { IfOk result (λ r. 1 + place_count (syntax r.0) ≤ 67108864) }
