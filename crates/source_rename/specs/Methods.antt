@@ -44,13 +44,10 @@ first_named name _ = false
 abbrev pub holds_named : List ℕ → Row → Bool
 holds_named name row = if row.0 then false else first_named name row.1
 
+-- the first slot holds an identifier of this name
 abbrev pub key_named : List ℕ → Slots → Bool
 key_named name no_slots = false
 key_named name (slot list places more) = holds_named name (list, places)
-
--- the first slot holds an identifier of this name
-abbrev pub has_named_key : List ℕ → Syntax → Bool
-has_named_key name (node kind scalars slots notes from) = key_named name slots
 
 -- a method that is no longer of the kind of its key once that is renamed
 abbrev pub is_bad : List ℕ → List ℕ → Syntax → Bool

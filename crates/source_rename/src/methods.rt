@@ -1,11 +1,12 @@
 //! Methods that a rename would make their class's constructor, or no longer.
 
-ghost use Rattle.std.specs.Prelude.{◌≡◌, [], ◌∷◌, slice_get, IfOk};
-ghost use Rattle.tree_core.specs.View.{syntax, slot_view, place_view, places_of};
-ghost use Rattle.source_rename.specs.Methods.{steps_of, bad_places};
+ghost use Rattle.std.specs.Prelude.{◌≡◌, [], ◌∷◌, map, slice_get, IfOk};
+ghost use Rattle.tree_core.specs.View.{syntax, slot_view, place_view, slots_of, places_of};
+ghost use Rattle.source_rename.specs.Methods.{steps_of, bad_places, key_named};
 ghost use Rattle.source_rename.specs.Methods as spec;
 
 use crate::names::{is_named, is_text};
+use sqlite_items::at;
 use std::alloc::{AllocError, Global};
 use tree_core::{Place, Scalar, Slot, Tree};
 use type_defs::Kind;
@@ -111,7 +112,7 @@ fn is_bad(names: &Names<'_>, tree: &Tree) -> bool
 {
     tree.kind == Kind::MethodDefinition.number()
         && is_wrong(wrong_kind(names.new), tree)
-        && has_named_key(names.old, tree)
+        && has_named_key(names.old, tree.slots.as_slice())
 }
 
 // The kind that a method of an instance may not have, whose key is this name.
@@ -155,10 +156,10 @@ fn is_false_at(method: &Tree, at: usize) -> bool
 }
 
 // Whether the first slot holds an identifier of the name.
-fn has_named_key(name: &[u8], method: &Tree) -> bool
-    ensures { result ≡ spec.has_named_key name.now (syntax method.now) }
+fn has_named_key(name: &[u8], slots: &[Slot]) -> bool
+    ensures { result ≡ key_named name.now (slots_of (map slot_view slots.now)) }
 {
-    match method.slots.get(0) {
+    match at(slots, 0) {
         Some(slot) => holds_named(name, slot),
         None => false,
     }

@@ -5,4 +5,4 @@ use Rattle.source_rename.proofs.Left.{behind_places}
 use Rattle.source_rename.proofs.methods.behind.Given as goal
 
 abbrev pub invariant-loop-place : goal.invariant-loop-place
-invariant-loop-place l = behind_places l.here (drop l.place-index l.place-items) ≡ behind l.number (slot_view l.slot).1
+invariant-loop-place l = behind_places l.here (drop l._place-index l._place-items) ≡ behind l.number (slot_view l.slot).1
