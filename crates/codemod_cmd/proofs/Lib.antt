@@ -7,3 +7,5 @@ pub mod Kept
 pub mod Rowed
 pub mod Scripts
 pub mod Written
+pub mod Plain
+pub mod Refusals

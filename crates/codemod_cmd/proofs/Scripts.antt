@@ -1,11 +1,11 @@
--- How a script of the one form falls apart.
+-- How a renaming script falls apart.
 use Rattle.std.proofs.Common.{◌≡◌, ℕ, suc, ◌<◌, ◌≤◌, Bool, true, false, List, [], ◌∷◌, ◌++◌, length, get_or, take, drop, refl, sym, ap, ◌∙◌, arith, append_assoc}
 use Rattle.std.specs.List.{prefix_len, take_while}
 use Rattle.std.proofs.Math.Seq.{take-append_seam}
 use Rattle.std.proofs.lemmas.List.{append_cancel_left, length-take-le}
 use Rattle.first_grammar.specs.Words.{is_part}
 use Rattle.first_rename.specs.Names.{IsPlainName}
-use Rattle.codemod_cmd.specs.Script.{front, middle, back, IsEnd, IsScript}
+use Rattle.codemod_cmd.specs.Script.{front, middle, back, IsEnd, IsRenaming}
 
 prefix_len-name : (p : ℕ → Bool) (w rest : List ℕ) (c : ℕ) → ((k : ℕ) → k < length w → p (get_or w k 0) ≡ true) → p c ≡ false → prefix_len p (w ++ (c ∷ rest)) ≡ length w
 prefix_len-name p [] rest c all stop = rw stop refl
@@ -28,11 +28,11 @@ split_at_name s w q name rest c taken whole is lawful stop =
     (same, append_cancel_left name q (c ∷ rest) (ap (λ x. x ++ q) (sym same) ∙ sym whole ∙ is))
 
 -- the script from its front on
-pub from_front : (s old new : List ℕ) → IsScript old new s → (end : List ℕ) × IsEnd end × (s ≡ front ++ (old ++ (middle ++ (new ++ (back ++ end)))))
+pub from_front : (s old new : List ℕ) → IsRenaming old new s → (end : List ℕ) × IsEnd end × (s ≡ front ++ (old ++ (middle ++ (new ++ (back ++ end)))))
 from_front s old new h = (h.2.0, h.2.1, simp append_assoc at h.2.2)
 
 -- the script from its first name on, and from its second
-pub from_old : (s rest w q old new : List ℕ) → s ≡ front ++ rest → w ≡ take_while is_part rest → rest ≡ w ++ q → IsScript old new s
+pub from_old : (s rest w q old new : List ℕ) → s ≡ front ++ rest → w ≡ take_while is_part rest → rest ≡ w ++ q → IsRenaming old new s
     → (w ≡ old) × ((end : List ℕ) × IsEnd end × (q ≡ middle ++ (new ++ (back ++ end))))
 unfolding middle
 from_old s rest w q old new is taken whole h =
@@ -43,7 +43,7 @@ from_old s rest w q old new is taken whole h =
     (apart.0, (whole_script.0, whole_script.1, apart.1))
 
 pub from_new : (s rest w q rest' w' q' old new : List ℕ) → s ≡ front ++ rest → w ≡ take_while is_part rest → rest ≡ w ++ q → q ≡ middle ++ rest' → w' ≡ take_while is_part rest' → rest' ≡ w' ++ q'
-    → IsScript old new s → (w ≡ old) × (w' ≡ new) × ((end : List ℕ) × IsEnd end × (q' ≡ back ++ end))
+    → IsRenaming old new s → (w ≡ old) × (w' ≡ new) × ((end : List ℕ) × IsEnd end × (q' ≡ back ++ end))
 unfolding back
 from_new s rest w q rest' w' q' old new is taken whole is' taken' whole' h =
     let before = from_old s rest w q old new is taken whole h in

@@ -1,6 +1,8 @@
+pub mod Changes
 pub mod FileAnswer
 pub mod FileRows
 pub mod Folders
+pub mod Readings
 pub mod Rows
 pub mod Script
 pub mod Session

@@ -7,9 +7,11 @@ use Rattle.std.specs.declared.alloc.Global.{Global}
 use Rattle.cm_store.specs.Contents.{Contents}
 use Rattle.cm_store.specs.Writing.{AppendsFront}
 use Rattle.cm_text.specs.declared.source.TheConstants.{MAX_LENGTH}
-use Rattle.command_words.specs.Invocations.{invocation_of}
+use Rattle.command_words.specs.Requests.{request_of}
 use Rattle.command_words.specs.declared.invocation.Invocation.{Invocation}
-use Rattle.run_report.specs.Texts.{script_line, summary_lines}
+use Rattle.command_words.specs.declared.invocation.Request.{Request}
+use Rattle.command_words.specs.declared.invocation.Request.TheVariants.{Run, Sample}
+use Rattle.run_report.specs.Texts.{script_line, summary_lines, sample_lines}
 use Rattle.run_report.specs.Counting.{no_counts, counted}
 use Rattle.run_report.specs.declared.counts.Counts.{Counts}
 use Rattle.run_report.specs.declared.answer.RowAnswer.{RowAnswer}
@@ -18,7 +20,8 @@ use Rattle.run_report.specs.declared.answer.RowError.{RowError}
 use Rattle.run_report.specs.declared.answer.RowError.TheVariants.{Form}
 use Rattle.codemod_cmd.specs.Rows.{Row, answer_of, HasBytes, HasNone, IsRow, leaves, after, faults_in, row_faults, faults_of, Rises, shown, shown_all, counted_all, has_error}
 use Rattle.codemod_cmd.specs.Folders.{Place, places, named, Goes}
-use Rattle.codemod_cmd.specs.Script.{IsScript, IsNoScript}
+use Rattle.sample_gen.specs.Sample.{sample}
+use Rattle.codemod_cmd.specs.Script.{Change, renames, IsScript, IsNoScript}
 use Rattle.codemod_cmd.specs.FileAnswer.{FileAnswer}
 use Rattle.codemod_cmd.specs.declared.status.Status.{Status}
 use Rattle.codemod_cmd.specs.declared.status.Status.TheVariants.{Done, HadErrors, Usage, NoScript, NoMemory, OutputFault}
@@ -100,51 +103,57 @@ abbrev pub Halts : (List ℕ → RowAnswer → List ℕ → Type 0) → Invocati
 Halts says command w v = (rows : List (List ℕ × Row)) × (rest : List Place) × Runs says command (first_places command) rest rows w v × AppendsFront w.taken v.taken (told command rest rows)
 
 -- what the words ask for, where they are those of the command
-abbrev pub asked : List (String Global) → Option Invocation
-asked words = invocation_of (map string_bytes words)
+abbrev pub asked : List (String Global) → Option Request
+asked words = request_of (map string_bytes words)
 
 unfoldable pub usage_line : List ℕ
 usage_line = codes
     "usage: codemod -t SCRIPT [-d] [-p] [--fuel N] [--extensions LIST] [--fail-on-error] [--tab-width N] [--use-tabs] [--quote Q] [--trailing-comma] [--no-curly-spacing] [--arrow-parens] FILE...\n"
 
--- the script of this name gives each identifier `old` the name `new`
-abbrev pub Asks : Option Contents → List ℕ → List ℕ → List ℕ → Type 0
-Asks held script old new = (bytes : List ℕ) × HasBytes held script bytes × IsScript old new bytes
+-- the script of this name does this
+abbrev pub Asks : Option Contents → List ℕ → Change → Type 0
+Asks held script change = (bytes : List ℕ) × HasBytes held script bytes × IsScript change bytes
 
 -- the script of this name is not run, for this reason. A failed read is one that the store counted
 abbrev pub IsNotRun : Option Contents → ℕ → ℕ → List ℕ → RowError → Type 0
 IsNotRun held before now script (Form at Subset) = (bytes : List ℕ) × HasBytes held script bytes × IsNoScript bytes × (at ≡ 0)
 IsNotRun held before now script error = HasNone held script error × Rises (faults_in error) before now
 
--- a run that writes this line, no row and no file
-abbrev pub WritesLine : List (String Global) → Outside → Outside → List ℕ → Status → Type 0
-WritesLine words w v line Usage = (asked words ≡ None) × (v.held ≡ w.held) × (line ≡ usage_line)
-WritesLine words w v line NoScript =
-    (command : Invocation) × (error : RowError) × (asked words ≡ Some command) × IsNotRun w.held w.failed v.failed command.script error × (v.held ≡ w.held) × (line ≡ script_line command.script error)
-WritesLine words w v line _ = ⊥
+-- what is written of a sample: the lengths of its source and of the text that a renaming makes of it
+abbrev pub IsSample : ℕ → List ℕ → Type 0
+IsSample count line =
+    (answer : RowAnswer) × (text : List ℕ) × FileAnswer (renames (codes "a") (codes "b")) (sample count) answer text × (line ≡ sample_lines count (length (sample count)) answer text)
 
--- the words ask for a run of this script
-abbrev pub RunsScript : List (String Global) → Outside → Invocation → List ℕ → List ℕ → Type 0
-RunsScript words w command old new = (asked words ≡ Some command) × Asks w.held command.script old new
+-- a run that writes this line, no row and no file
+abbrev pub WritesLine : Option Request → Outside → Outside → List ℕ → Status → Type 0
+WritesLine request w v line Usage = (request ≡ None) × (v.held ≡ w.held) × (line ≡ usage_line)
+WritesLine request w v line NoScript =
+    (command : Invocation) × (error : RowError) × (request ≡ Some (Run command)) × IsNotRun w.held w.failed v.failed command.script error × (v.held ≡ w.held) × (line ≡ script_line command.script error)
+WritesLine request w v line Done = (count : ℕ) × (request ≡ Some (Sample count)) × (v.held ≡ w.held) × IsSample count line
+WritesLine request w v line _ = ⊥
+
+-- a run of this script is asked for
+abbrev pub RunsScript : Option Request → Outside → Invocation → Change → Type 0
+RunsScript request w command change = (request ≡ Some (Run command)) × Asks w.held command.script change
 
 -- a run that wrote all of its text
-abbrev pub Finishes : List (String Global) → Outside → Outside → Status → Type 0
-Finishes words w v status =
-    ((line : List ℕ) × WritesLine words w v line status × Appends w.taken v.taken line)
-    ⊎ ((command : Invocation) × (old : List ℕ) × (new : List ℕ) × RunsScript words w command old new × Completes (FileAnswer old new) command w v status)
+abbrev pub Finishes : Option Request → Outside → Outside → Status → Type 0
+Finishes request w v status =
+    ((line : List ℕ) × WritesLine request w v line status × Appends w.taken v.taken line)
+    ⊎ ((command : Invocation) × (change : Change) × RunsScript request w command change × Completes (FileAnswer change) command w v status)
 
 -- a run that stopped before: it did nothing, or wrote a front of its line, or the rows of some names and a front of what is written of them
-abbrev pub Stops : List (String Global) → Outside → Outside → Type 0
-Stops words w v =
+abbrev pub Stops : Option Request → Outside → Outside → Type 0
+Stops request w v =
     Stays w v
-    ⊎ ((line : List ℕ) × (status : Status) × WritesLine words w v line status × AppendsFront w.taken v.taken line)
-    ⊎ ((command : Invocation) × (old : List ℕ) × (new : List ℕ) × RunsScript words w command old new × Halts (FileAnswer old new) command w v)
+    ⊎ ((line : List ℕ) × (status : Status) × WritesLine request w v line status × AppendsFront w.taken v.taken line)
+    ⊎ ((command : Invocation) × (change : Change) × RunsScript request w command change × Halts (FileAnswer change) command w v)
 
 -- how a run ends
-abbrev pub Ends : List (String Global) → Outside → Outside → Status → Type 0
-Ends words w v NoMemory = Stops words w v
-Ends words w v OutputFault = Stops words w v
-Ends words w v status = Finishes words w v status
+abbrev pub Ends : Option Request → Outside → Outside → Status → Type 0
+Ends request w v NoMemory = Stops request w v
+Ends request w v OutputFault = Stops request w v
+Ends request w v status = Finishes request w v status
 
 -- the run ends with this status, unless it stopped before
 abbrev pub EndsBy : Status → Status → Type 0

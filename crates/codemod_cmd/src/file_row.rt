@@ -13,7 +13,7 @@ use crate::reading::{Unread, load};
 use crate::stop::Stop;
 use crate::writing::write;
 use cm_store::{Sink, Store, WriteAnswer};
-use run_report::{RowAnswer, RowError, push_printed, row_text};
+use run_report::{RowAnswer, RowError, error_row, push_printed, row_text};
 use std::alloc::{AllocError, Global};
 
 /// What comes of a file before it is replaced.
@@ -26,12 +26,21 @@ pub enum FileRow {
 }
 
 impl FileRow {
-    fn answer(&self) -> RowAnswer
-        ensures { result ≡ answer_of (row_of self.now) }
+    fn into_answer(self) -> RowAnswer
+        ensures { result ≡ answer_of (row_of self) }
     {
         match self {
             FileRow::Answered(outcome) => outcome.answer,
-            FileRow::Refused(error) => RowAnswer::Error(*error),
+            FileRow::Refused(error) => RowAnswer::Error(error),
+        }
+    }
+
+    fn line(&self, alloc: Global, name: &str) -> Result<Vec<u8>, AllocError>
+        ensures { IfOk result (λ v. v.items ≡ row_line name.now (answer_of (row_of self.now))) }
+    {
+        match self {
+            FileRow::Answered(outcome) => row_text(alloc, name, &outcome.answer),
+            FileRow::Refused(error) => error_row(alloc, name, error),
         }
     }
 
@@ -40,7 +49,10 @@ impl FileRow {
         ensures { MatchOption result (HasNoText (row_of self.now)) (λ text. HasText (row_of self.now) text.now) }
     {
         match self {
-            FileRow::Answered(outcome) if outcome.answer == RowAnswer::Ok => Some(&outcome.text),
+            FileRow::Answered(Outcome {
+                answer: RowAnswer::Ok,
+                text,
+            }) => Some(text),
             _ => None,
         }
     }
@@ -69,7 +81,7 @@ fn row_of_file<E: Engine, S: Store>(
 fn lines(alloc: Global, print: bool, name: &str, row: &FileRow) -> Result<Vec<u8>, AllocError>
     ensures { IfOk result (λ v. v.items ≡ shown print name.now (row_of row.now)) }
 {
-    let mut lines = row_text(alloc, name, row.answer())?;
+    let mut lines = row.line(alloc, name)?;
     if !print {
         return Ok(lines);
     }
@@ -105,7 +117,7 @@ fn prepare<O: Sink>(
     ensures same_count { O.fault_count out.new ≡ O.fault_count out.old }
 {
     let row = lines(alloc, print, name, row)?;
-    let fault = row_text(alloc, name, RowAnswer::Error(RowError::WriteFault))?;
+    let fault = error_row(alloc, name, &RowError::WriteFault)?;
     let most = row.len().max(fault.len());
     match out.reserve(most as u64) {
         Ok(()) => Ok(Texts { row, fault }),
@@ -160,7 +172,7 @@ pub fn one_file<E: Engine, S: Store, O: Sink>(
     };
     match keep_text(alloc, job.command.dry, store, name, &row) {
         Ok(()) => match write(out, &texts.row) {
-            Ok(()) => Ok(row.answer()),
+            Ok(()) => Ok(row.into_answer()),
             Err(_) => Err(Stop::OutputFault),
         },
         Err(WriteAnswer::Failed) => match write(out, &texts.fault) {

@@ -4,6 +4,7 @@
 //! a script and files, one row a file goes out, and a status tells how the run ended.
 #![tactic(auto)]
 
+mod answering;
 mod engine;
 mod file_row;
 mod folder;
@@ -11,6 +12,7 @@ mod job;
 mod reading;
 mod renaming;
 mod running;
+mod sampling;
 mod script;
 mod session;
 mod sight;
@@ -18,6 +20,7 @@ mod status;
 mod stop;
 #[cfg(test)]
 mod tests;
+mod transform;
 mod walking;
 mod writing;
 

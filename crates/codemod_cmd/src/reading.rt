@@ -9,7 +9,7 @@ use run_report::RowError;
 use std::alloc::Global;
 
 /// Why there are no bytes.
-#[derive(Clone, Copy, Debug, PartialEq, Eq)]
+#[derive(Debug, Drop)]
 pub enum Unread {
     /// The name has none that may be read.
     Refused(RowError),

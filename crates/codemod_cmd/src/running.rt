@@ -1,6 +1,6 @@
 //! The run of the command.
 
-ghost use Rattle.std.specs.Prelude.{◌≡◌, ◌≤◌, true, None, Some, IfOk, OnErr, IsErrOf};
+ghost use Rattle.std.specs.Prelude.{◌≡◌, ◌≤◌, ℕ, true, None, Some, IfOk, OnErr, IsErrOf};
 ghost use Rattle.std.specs.Io.KnownBytes.{Appends};
 ghost use Rattle.cm_store.specs.Faults.{Rose};
 ghost use Rattle.cm_store.specs.Writing.{AppendsFront};
@@ -10,13 +10,14 @@ ghost use Rattle.codemod_cmd.specs.Session.{outside, asked, usage_line, Finishes
 
 use crate::job::Job;
 use crate::reading::{Unread, load};
-use crate::script::Renaming;
+use crate::sampling::sample_lines;
 use crate::session::run_job;
 use crate::status::Status;
 use crate::stop::Stop;
+use crate::transform::Transform;
 use crate::writing::say;
 use cm_store::{Sink, Store};
-use command_words::{USAGE, read_words};
+use command_words::{Invocation, Request, USAGE, read_words};
 use run_report::{FormKind, RowError, script_text};
 use std::alloc::Global;
 
@@ -33,16 +34,48 @@ fn refuse_script<O: Sink>(
     alloc: Global,
     out: &mut O,
     name: &str,
-    error: RowError,
+    error: &RowError,
 ) -> Result<Status, Stop>
-    ensures all { IfOk result (λ status. (status ≡ Status.NoScript) × Appends (O.taken_bytes out.old) (O.taken_bytes out.new) (script_line name.now error)) }
-    ensures front { OnErr result (AppendsFront (O.taken_bytes out.old) (O.taken_bytes out.new) (script_line name.now error)) }
+    ensures all { IfOk result (λ status. (status ≡ Status.NoScript) × Appends (O.taken_bytes out.old) (O.taken_bytes out.new) (script_line name.now error.now)) }
+    ensures front { OnErr result (AppendsFront (O.taken_bytes out.old) (O.taken_bytes out.new) (script_line name.now error.now)) }
     ensures later { O.fault_count out.old ≤ O.fault_count out.new }
     ensures fault { IsErrOf result Stop.OutputFault → Rose (O.fault_count out.old) (O.fault_count out.new) }
 {
     let line = script_text(alloc, name, error)?;
     say(out, &line)?;
     Ok(Status::NoScript)
+}
+
+// Runs the script over the files, or tells why that is not done.
+fn run_command<S: Store, O: Sink>(
+    alloc: Global,
+    command: &Invocation,
+    store: &mut S,
+    out: &mut O,
+) -> Result<Status, Stop>
+    ensures finishes { IfOk result (Finishes (Some (Request.Run command.now))
+        (outside (S.contents store.old) (S.fault_count store.old) (O.taken_bytes out.old))
+        (outside (S.contents store.new) (S.fault_count store.new) (O.taken_bytes out.new))) }
+    ensures stops { OnErr result (Stops (Some (Request.Run command.now))
+        (outside (S.contents store.old) (S.fault_count store.old) (O.taken_bytes out.old))
+        (outside (S.contents store.new) (S.fault_count store.new) (O.taken_bytes out.new))) }
+    ensures fault { IsErrOf result Stop.OutputFault → Rose (O.fault_count out.old) (O.fault_count out.new) }
+{
+    let script = match load(alloc, store, command.script.get()) {
+        Ok(script) => script,
+        Err(Unread::Refused(error)) => {
+            return refuse_script(alloc, out, command.script.get(), &error);
+        }
+        Err(Unread::NoMemory) => return Err(Stop::NoMemory),
+    };
+    let Some(engine) = Transform::from_script(&script) else {
+        let at = 0;
+        let kind = FormKind::Subset;
+        let error = RowError::Form { at, kind };
+        return refuse_script(alloc, out, command.script.get(), &error);
+    };
+    let engine = &engine;
+    run_job(alloc, &Job { engine, command }, store, out)
 }
 
 // Runs the words to their end, or tells why that is not reached.
@@ -52,48 +85,37 @@ fn run_words<S: Store, O: Sink>(
     store: &mut S,
     out: &mut O,
 ) -> Result<Status, Stop>
-    ensures finishes { IfOk result (Finishes words.now
+    ensures finishes { IfOk result (Finishes (asked words.now)
         (outside (S.contents store.old) (S.fault_count store.old) (O.taken_bytes out.old))
         (outside (S.contents store.new) (S.fault_count store.new) (O.taken_bytes out.new))) }
-    ensures stops { OnErr result (Stops words.now
+    ensures stops { OnErr result (Stops (asked words.now)
         (outside (S.contents store.old) (S.fault_count store.old) (O.taken_bytes out.old))
         (outside (S.contents store.new) (S.fault_count store.new) (O.taken_bytes out.new))) }
     ensures fault { IsErrOf result Stop.OutputFault → Rose (O.fault_count out.old) (O.fault_count out.new) }
 {
-    let Some(command) = read_words(alloc, words)? else {
+    let Some(request) = read_words(alloc, words)? else {
         say(out, usage())?;
         return Ok(Status::Usage);
     };
-    let script = match load(alloc, store, command.script.get()) {
-        Ok(script) => script,
-        Err(Unread::Refused(error)) => {
-            return refuse_script(alloc, out, command.script.get(), error);
+    match request {
+        Request::Run(command) => run_command(alloc, &command, store, out),
+        Request::Sample { count } => {
+            let lines = sample_lines(alloc, count)?;
+            say(out, &lines)?;
+            Ok(Status::Done)
         }
-        Err(Unread::NoMemory) => return Err(Stop::NoMemory),
-    };
-    let Some(engine) = Renaming::from_script(&script) else {
-        let at = 0;
-        let kind = FormKind::Subset;
-        return refuse_script(
-            alloc,
-            out,
-            command.script.get(),
-            RowError::Form { at, kind },
-        );
-    };
-    let engine = &engine;
-    let command = &command;
-    run_job(alloc, &Job { engine, command }, store, out)
+    }
 }
 
 /// Runs the command that the words are over the files of the store, and writes its rows.
 pub fn run<S: Store, O: Sink>(alloc: Global, words: &[String], store: &mut S, out: &mut O) -> Status
-    ensures ends { Ends words.now
+    ensures ends { Ends (asked words.now)
         (outside (S.contents store.old) (S.fault_count store.old) (O.taken_bytes out.old))
         (outside (S.contents store.new) (S.fault_count store.new) (O.taken_bytes out.new)) result }
     ensures usage { asked words.now ≡ None → EndsBy Status.Usage result }
-    ensures no_script { (command : Invocation) → asked words.now ≡ Some command → LacksScript (S.contents store.old) command.script → EndsBy Status.NoScript result }
-    ensures dry { (command : Invocation) → asked words.now ≡ Some command → command.dry ≡ true → S.contents store.new ≡ S.contents store.old }
+    ensures no_script { (command : Invocation) → asked words.now ≡ Some (Request.Run command) → LacksScript (S.contents store.old) command.script → EndsBy Status.NoScript result }
+    ensures dry { (command : Invocation) → asked words.now ≡ Some (Request.Run command) → command.dry ≡ true → S.contents store.new ≡ S.contents store.old }
+    ensures sample { (count : ℕ) → asked words.now ≡ Some (Request.Sample count) → S.contents store.new ≡ S.contents store.old }
     ensures fault { result ≡ Status.OutputFault → Rose (O.fault_count out.old) (O.fault_count out.new) }
 {
     match run_words(alloc, words, store, out) {

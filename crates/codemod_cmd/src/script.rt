@@ -1,9 +1,9 @@
-//! The one form of script that is understood: it gives each identifier of one name another name.
+//! The script that gives each identifier of one name another name.
 
 ghost use Rattle.std.specs.Prelude.{◌≡◌, ◌≢◌, ◌++◌, ◌↔◌, ℕ, List, length, IsTrue, MatchOption, take_while};
 ghost use Rattle.first_grammar.specs.Words.{is_part};
 ghost use Rattle.first_rename.specs.Names.{IsPlainName};
-ghost use Rattle.codemod_cmd.specs.Script.{IsEnd, IsScript, IsNoScript};
+ghost use Rattle.codemod_cmd.specs.Script.{IsEnd, IsRenaming, IsNoRenaming};
 
 use first_grammar::words::is_part;
 use first_rename::is_plain_name;
@@ -23,8 +23,8 @@ pub struct Renaming<'a> {
     ghost lawful: { IsPlainName new.now },
 }
 
-// What stands behind this front.
-fn after<'a>(bytes: &'a [u8], front: &[u8]) -> Option<&'a [u8]>
+/// What stands behind this front.
+pub(crate) fn after<'a>(bytes: &'a [u8], front: &[u8]) -> Option<&'a [u8]>
     ensures { MatchOption result ((rest : List ℕ) → bytes.now ≢ front.now ++ rest) (λ rest. bytes.now ≡ front.now ++ rest.now) }
 {
     bytes.strip_prefix(front)
@@ -45,8 +45,8 @@ fn split_name(bytes: &[u8]) -> (&[u8], &[u8])
     bytes.split_at(name_len(bytes))
 }
 
-// Whether a script may end so.
-fn is_end(bytes: &[u8]) -> bool
+/// Whether a script may end so.
+pub(crate) fn is_end(bytes: &[u8]) -> bool
     ensures { IsTrue result ↔ IsEnd bytes.now }
 {
     bytes.is_empty() || bytes == b"\n".as_slice()
@@ -62,7 +62,7 @@ fn is_lawful(old: &[u8], new: &[u8], end: &[u8]) -> bool
 impl<'a> Renaming<'a> {
     /// What the script asks for, where it is of this form.
     pub fn from_script(script: &'a [u8]) -> Option<Renaming<'a>>
-        ensures { MatchOption result (IsNoScript script.now) (λ r. IsScript r.old.now r.new.now script.now) }
+        ensures { MatchOption result (IsNoRenaming script.now) (λ r. IsRenaming r.old.now r.new.now script.now) }
     {
         let (old, rest) = split_name(after(script, FRONT)?);
         let (new, rest) = split_name(after(rest, MIDDLE)?);

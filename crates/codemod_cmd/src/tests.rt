@@ -12,6 +12,8 @@ use tree_core::Name;
 const SCRIPT: &str =
     "module.exports = (file, api) => api.jscodeshift(file.source).find(api.jscodeshift.Identifier, { name: \"a\" }).replaceWith(api.jscodeshift.identifier(\"b\")).toSource();";
 
+const PRINTING: &str = "module.exports = (file, api) => api.jscodeshift(file.source).toSource();\n";
+
 const SOURCE: &[u8] = b"foo(a, b);";
 
 const RENAMED: &[u8] = b"foo(b, b);";
@@ -77,60 +79,119 @@ fn holds(alloc: Global, store: &mut MemoryStore, name: &str, bytes: &[u8]) -> bo
 const USAGE: &str =
     "usage: codemod -t SCRIPT [-d] [-p] [--fuel N] [--extensions LIST] [--fail-on-error] [--tab-width N] [--use-tabs] [--quote Q] [--trailing-comma] [--no-curly-spacing] [--arrow-parens] FILE...\n";
 
-// Sources, and what a dry run over one file writes.
-const READS: [(&[u8], &str); 5] = [
+// A run over files that hold the source, and what comes of it.
+#[derive(Clone, Copy)]
+struct Run<'a> {
+    words: &'a str,
+    script: Option<&'a str>,
+    names: &'a [&'a str],
+    source: &'a [u8],
+    ends: Status,
+    wanted: &'a str,
+}
+
+// What the file holds in the end: those of rows `ok` are replaced unless the run is dry, and no
+// others.
+fn left(alloc: Global, run: &Run<'_>, name: &str) -> Result<&'static [u8], AllocError> {
+    let line = format!(in alloc; "ok {name}\n")?;
+    if !run.words.contains("-d") && run.wanted.contains(line.as_str()) {
+        return Ok(RENAMED);
+    }
+    Ok(b"")
+}
+
+// Whether the run comes out so, where one call of the store may fail.
+fn comes_out(alloc: Global, run: &Run<'_>, fail: Option<u64>) -> Result<bool, AllocError> {
+    let mut store = store_of(alloc, run.script, run.names, run.source, fail)?;
+    let (status, written) = outcome(alloc, run.words, &mut store, None)?;
+    if status != run.ends || written.as_slice() != run.wanted.as_bytes() {
+        return Ok(false);
+    }
+    for name in run.names.iter() {
+        let new = left(alloc, run, name)?;
+        let bytes = if new.is_empty() { run.source } else { new };
+        if !holds(alloc, &mut store, name, bytes) {
+            return Ok(false);
+        }
+    }
+    Ok(true)
+}
+
+// Scripts, sources, and the rows of dry runs over one file.
+const ROWS: [(&str, &[u8], &str); 16] = [
+    (SCRIPT, SOURCE, "ok a.js\ntext 10\nfoo(b, b);\n"),
+    (SCRIPT, b"a.a = f(a);", "ok a.js\ntext 11\nb.b = f(b);\n"),
+    (SCRIPT, b"f(;", "error a.js: syntax Unexpected at 2\n"),
+    (SCRIPT, b"", "unmodified a.js\n"),
+    (SCRIPT, b"abc\xFF", "error a.js: not UTF-8 at 3\n"),
     (
-        SOURCE,
-        "ok a.js\ntext 10\nfoo(b, b);\nerrors 0\nunmodified 0\nskipped 0\nok 1\n",
+        SCRIPT,
+        b"let \xC3\xA9 = async a => ({ a })",
+        "ok a.js\ntext 27\nlet é = async b => ({ b })\n",
     ),
+    (SCRIPT, b"let q = `x`", "unmodified a.js\n"),
     (
-        b"a.a = f(a);",
-        "ok a.js\ntext 11\nb.b = f(b);\nerrors 0\nunmodified 0\nskipped 0\nok 1\n",
+        "module.exports = (file, api) => api.jscodeshift(file.source).find(api.jscodeshift.Identifier, { name: \"a\" }).replaceWith(api.jscodeshift.identifier(\"constructor\")).toSource();",
+        b"class A { a() {} }",
+        "error a.js: bad node /0/2/0 Method\n",
     ),
-    (
-        b"f(;",
-        "error a.js: syntax Unexpected at 2\nerrors 1\nunmodified 0\nskipped 0\nok 0\n",
-    ),
-    (
-        b"",
-        "unmodified a.js\nerrors 0\nunmodified 1\nskipped 0\nok 0\n",
-    ),
-    (
-        b"abc\xFF",
-        "error a.js: not UTF-8 at 3\nerrors 1\nunmodified 0\nskipped 0\nok 0\n",
-    ),
+    (SCRIPT, b"x = \"a", "error a.js: syntax OpenString at 4\n"),
+    (SCRIPT, b"x = `a", "error a.js: syntax OpenTemplate at 4\n"),
+    (PRINTING, b"a /* b", "error a.js: syntax OpenComment at 2\n"),
+    (PRINTING, b"a = /b", "error a.js: syntax OpenRegex at 4\n"),
+    (PRINTING, b"\"\\8\"", "error a.js: syntax BadEscape at 0\n"),
+    (PRINTING, b"3in x", "error a.js: syntax BadNumber at 0\n"),
+    (PRINTING, b"a = #", "error a.js: syntax BadChar at 4\n"),
+    (PRINTING, SOURCE, "unmodified a.js\n"),
 ];
 
+// The lines of the counts behind one row.
+fn with_counts(alloc: Global, row: &str) -> Result<String, AllocError> {
+    let errors = u8::from(row.starts_with("error"));
+    let unmodified = u8::from(row.starts_with("unmodified"));
+    let ok = u8::from(row.starts_with("ok"));
+    format!(in alloc;
+        "{row}errors {errors}\nunmodified {unmodified}\nskipped 0\nok {ok}\n"
+    )
+}
+
 #[test]
-fn dry_runs(rt: HostRuntime) -> Result<(), Fail> {
+fn rows(rt: HostRuntime) -> Result<(), Fail> {
     let alloc = rt.alloc();
-    for (source, wanted) in READS.iter() {
-        let mut store = store_of(alloc, Some(SCRIPT), &["a.js"], source, None)?;
-        let (status, written) = outcome(alloc, "-t s.js -d -p a.js", &mut store, None)?;
-        assert_eq!(rt; status, Status::Done, "for {wanted}");
-        assert!(rt; written.as_slice() == wanted.as_bytes(), "for {wanted}");
-        assert!(rt; holds(alloc, &mut store, "a.js", source), "for {wanted}");
+    for (script, source, row) in ROWS.iter() {
+        let wanted = with_counts(alloc, row)?;
+        let run = Run {
+            words: "-t s.js -d -p a.js",
+            script: Some(script),
+            names: &["a.js"],
+            source,
+            ends: Status::Done,
+            wanted: wanted.as_str(),
+        };
+        assert!(rt; comes_out(alloc, &run, None)?, "for {row}");
     }
     Ok(())
 }
 
-// Words, the files that there are, the status and what is written. The files of rows `ok` are
-// replaced, and no others.
-const RUNS: [(&str, &[&str], Status, &str); 6] = [
+// Words, a script, the files, the status and what is written.
+const RUNS: [(&str, Option<&str>, &[&str], Status, &str); 14] = [
     (
         "-t s.js a.js",
+        Some(SCRIPT),
         &["a.js"],
         Status::Done,
         "ok a.js\nerrors 0\nunmodified 0\nskipped 0\nok 1\n",
     ),
     (
         "-t s.js -p a.js c.js",
+        Some(SCRIPT),
         &["a.js"],
         Status::Done,
         "ok a.js\ntext 10\nfoo(b, b);\nerror c.js: missing\nerrors 1\nunmodified 0\nskipped 0\nok 1\n",
     ),
     (
         "-t s.js src",
+        Some(SCRIPT),
         &[
             "src/a.js",
             "src/b.txt",
@@ -142,6 +203,7 @@ const RUNS: [(&str, &[&str], Status, &str); 6] = [
     ),
     (
         "-t s.js --extensions js,ts src/ b.txt",
+        Some(SCRIPT),
         &[
             "b.txt",
             "src/b/.d.js",
@@ -156,68 +218,65 @@ const RUNS: [(&str, &[&str], Status, &str); 6] = [
     ),
     (
         "-t s.js odd",
+        Some(SCRIPT),
         &["odd/a.js"],
         Status::Done,
         "error odd: unnamed entries 1\nok odd/a.js\nerrors 1\nunmodified 0\nskipped 0\nok 1\n",
     ),
     (
         "-t s.js --fail-on-error c.js",
+        Some(SCRIPT),
         &["a.js"],
         Status::HadErrors,
         "error c.js: missing\nerrors 1\nunmodified 0\nskipped 0\nok 0\n",
     ),
-];
-
-#[test]
-fn runs(rt: HostRuntime) -> Result<(), Fail> {
-    let alloc = rt.alloc();
-    for (words, names, ends, wanted) in RUNS.iter() {
-        let mut store = store_of(alloc, Some(SCRIPT), names, SOURCE, None)?;
-        let (status, written) = outcome(alloc, words, &mut store, None)?;
-        assert_eq!(rt; status, *ends, "for {words}");
-        assert!(rt; written.as_slice() == wanted.as_bytes(), "for {words}");
-        for name in names.iter() {
-            let line = format!(in alloc; "ok {name}\n")?;
-            let bytes = if wanted.contains(line.as_str()) {
-                RENAMED
-            } else {
-                SOURCE
-            };
-            assert!(rt; holds(alloc, &mut store, name, bytes), "{name} for {words}");
-        }
-    }
-    Ok(())
-}
-
-// Words and a script of which no file is read, with the status and the one line.
-const LINES: [(&str, Option<&str>, Status, &str); 6] = [
     (
         "-t s.js a.js",
         Some("var x;"),
+        &["a.js"],
         Status::NoScript,
         "script s.js: form Subset at 0\n",
     ),
     (
         "-t s.js a.js",
         None,
+        &["a.js"],
         Status::NoScript,
         "script s.js: missing\n",
     ),
-    ("-d a.js", Some(SCRIPT), Status::Usage, USAGE),
-    ("-t s.js", Some(SCRIPT), Status::Usage, USAGE),
-    ("-t s.js --fuel 0 a.js", Some(SCRIPT), Status::Usage, USAGE),
-    ("--sample 0", Some(SCRIPT), Status::Usage, USAGE),
+    ("-d a.js", Some(SCRIPT), &["a.js"], Status::Usage, USAGE),
+    ("-t s.js", Some(SCRIPT), &["a.js"], Status::Usage, USAGE),
+    (
+        "-t s.js --fuel 0 a.js",
+        Some(SCRIPT),
+        &["a.js"],
+        Status::Usage,
+        USAGE,
+    ),
+    ("--sample 0", None, &["a.js"], Status::Usage, USAGE),
+    ("--sample 3 x", None, &["a.js"], Status::Usage, USAGE),
+    (
+        "--sample 3",
+        None,
+        &["a.js"],
+        Status::Done,
+        "sample 3\nread 132\nwritten 132\n",
+    ),
 ];
 
 #[test]
-fn lines_without_rows(rt: HostRuntime) -> Result<(), Fail> {
+fn runs(rt: HostRuntime) -> Result<(), Fail> {
     let alloc = rt.alloc();
-    for (words, script, ends, wanted) in LINES.iter() {
-        let mut store = store_of(alloc, *script, &["a.js"], SOURCE, None)?;
-        let (status, written) = outcome(alloc, words, &mut store, None)?;
-        assert_eq!(rt; status, *ends, "for {words}");
-        assert!(rt; written.as_slice() == wanted.as_bytes(), "for {words}");
-        assert!(rt; holds(alloc, &mut store, "a.js", SOURCE), "for {words}");
+    for (words, script, names, ends, wanted) in RUNS.iter() {
+        let run = Run {
+            words,
+            script: *script,
+            names,
+            source: SOURCE,
+            ends: *ends,
+            wanted,
+        };
+        assert!(rt; comes_out(alloc, &run, None)?, "for {words}");
     }
     Ok(())
 }
@@ -243,66 +302,73 @@ fn written_at(alloc: Global, call: u64) -> Result<String, AllocError> {
     Ok(text)
 }
 
+// Whether the run comes out so where one call of the store fails.
+fn comes_out_at(
+    alloc: Global,
+    call: u64,
+    names: &[&str],
+    ends: Status,
+    wanted: &str,
+) -> Result<bool, AllocError> {
+    let run = Run {
+        words: "-t s.js --fail-on-error a.js b.js c.js",
+        script: Some(SCRIPT),
+        names,
+        source: SOURCE,
+        ends,
+        wanted,
+    };
+    comes_out(alloc, &run, Some(call))
+}
+
 #[test]
 fn each_call_of_the_store_fails(rt: HostRuntime) -> Result<(), Fail> {
     let alloc = rt.alloc();
-    let words = "-t s.js --fail-on-error a.js b.js c.js";
+    let line = "script s.js: read fault\n";
+    assert!(rt; comes_out_at(alloc, 0, &NAMES, Status::NoScript, line)?);
     for call in 1..10u64 {
         let wanted = written_at(alloc, call)?;
-        let mut store = store_of(alloc, Some(SCRIPT), &NAMES, SOURCE, Some(call))?;
-        let (status, written) = outcome(alloc, words, &mut store, None)?;
-        assert_eq!(rt; status, Status::HadErrors, "call {call}");
-        assert!(rt; written.as_slice() == wanted.as_bytes(), "call {call}");
-        for (file, name) in NAMES.iter().enumerate() {
-            let bytes = if (call - 1) / 3 == file as u64 {
-                SOURCE
-            } else {
-                RENAMED
-            };
-            assert!(rt;
-                holds(alloc, &mut store, name, bytes),
-                "{name} at call {call}"
-            );
-        }
+        let wanted = wanted.as_str();
+        assert!(rt; comes_out_at(alloc, call, &NAMES, Status::HadErrors, wanted)?, "{call}");
     }
-    let mut store = store_of(alloc, Some(SCRIPT), &NAMES, SOURCE, Some(0))?;
-    let (status, written) = outcome(alloc, words, &mut store, None)?;
-    assert_eq!(rt; status, Status::NoScript);
-    assert!(rt; written.as_slice() == b"script s.js: read fault\n".as_slice());
     // A file that is missing is listed and not read.
-    let mut store = store_of(alloc, Some(SCRIPT), &["b.js", "c.js"], SOURCE, Some(4))?;
-    let (status, written) = outcome(alloc, words, &mut store, None)?;
+    let names = ["b.js", "c.js"];
     let wanted =
         "error a.js: missing\nerror b.js: write fault\nok c.js\nerrors 2\nunmodified 0\nskipped 0\nok 1\n";
-    assert_eq!(rt; status, Status::HadErrors);
-    assert!(rt; written.as_slice() == wanted.as_bytes());
-    assert!(rt; holds(alloc, &mut store, "b.js", SOURCE));
-    assert!(rt; holds(alloc, &mut store, "c.js", RENAMED));
+    assert!(rt; comes_out_at(alloc, 4, &names, Status::HadErrors, wanted)?);
     Ok(())
+}
+
+// What is written before each call of the output.
+const TAKEN: [&str; 4] = [
+    "",
+    "ok a.js\n",
+    "ok a.js\nok b.js\n",
+    "ok a.js\nok b.js\nok c.js\n",
+];
+
+// Whether the run stops where the output's call fails. The file in hand is replaced, and no later.
+fn stops_at(alloc: Global, call: usize, wanted: &str) -> Result<bool, AllocError> {
+    let mut store = store_of(alloc, Some(SCRIPT), &NAMES, SOURCE, None)?;
+    let words = "-t s.js a.js b.js c.js";
+    let (status, written) = outcome(alloc, words, &mut store, Some(call as u64))?;
+    if status != Status::OutputFault || written.as_slice() != wanted.as_bytes() {
+        return Ok(false);
+    }
+    for (file, name) in NAMES.iter().enumerate() {
+        let bytes = if file <= call { RENAMED } else { SOURCE };
+        if !holds(alloc, &mut store, name, bytes) {
+            return Ok(false);
+        }
+    }
+    Ok(true)
 }
 
 #[test]
 fn each_call_of_the_output_fails(rt: HostRuntime) -> Result<(), Fail> {
     let alloc = rt.alloc();
-    let taken = [
-        "",
-        "ok a.js\n",
-        "ok a.js\nok b.js\n",
-        "ok a.js\nok b.js\nok c.js\n",
-    ];
-    for (call, wanted) in taken.iter().enumerate() {
-        let mut store = store_of(alloc, Some(SCRIPT), &NAMES, SOURCE, None)?;
-        let words = "-t s.js a.js b.js c.js";
-        let (status, written) = outcome(alloc, words, &mut store, Some(call as u64))?;
-        assert_eq!(rt; status, Status::OutputFault, "call {call}");
-        assert!(rt; written.as_slice() == wanted.as_bytes(), "call {call}");
-        for (file, name) in NAMES.iter().enumerate() {
-            let bytes = if file <= call { RENAMED } else { SOURCE };
-            assert!(rt;
-                holds(alloc, &mut store, name, bytes),
-                "{name} at call {call}"
-            );
-        }
+    for (call, wanted) in TAKEN.iter().enumerate() {
+        assert!(rt; stops_at(alloc, call, wanted)?, "at {call}");
     }
     Ok(())
 }
@@ -329,14 +395,18 @@ fn folders_are_listed_64_levels_down(rt: HostRuntime) -> Result<(), Fail> {
     let last = repeated(alloc, "d", "/d", 64, "/a.js")?;
     let below = repeated(alloc, "d", "/d", 65, "/a.js")?;
     let deep = repeated(alloc, "d", "/d", 65, "")?;
-    let names = [below.as_str(), last.as_str()];
-    let mut store = store_of(alloc, Some(SCRIPT), &names, SOURCE, None)?;
-    let (status, written) = outcome(alloc, "-t s.js -d d", &mut store, None)?;
     let wanted = format!(in alloc;
         "ok {last}\nerror {deep}: folder too deep\nerrors 1\nunmodified 0\nskipped 0\nok 1\n"
     )?;
-    assert_eq!(rt; status, Status::Done);
-    assert!(rt; written.as_slice() == wanted.as_bytes());
+    let run = Run {
+        words: "-t s.js -d d",
+        script: Some(SCRIPT),
+        names: &[below.as_str(), last.as_str()],
+        source: SOURCE,
+        ends: Status::Done,
+        wanted: wanted.as_str(),
+    };
+    assert!(rt; comes_out(alloc, &run, None)?);
     Ok(())
 }
 
@@ -346,42 +416,34 @@ fn nested(alloc: Global, calls: u32) -> Result<String, AllocError> {
     repeated(alloc, "", "f(", calls, closing.as_str())
 }
 
+// What stands at a limit and beyond it: a front, a piece so many times, a back, and the row's front.
+const LIMITS: [(&str, &str, u32, &str, &str); 7] = [
+    ("a", ".a", 997, ";", "ok a.js\ntext 1996\n"),
+    ("a", ".a", 998, ";", "error a.js: syntax Nesting at "),
+    ("let a", ".a", 1, "", "error a.js: syntax Unexpected at 5\n"),
+    ("", " ", 2_097_152, "", "unmodified a.js\n"),
+    ("", " ", 2_097_153, "", "error a.js: longer than 2097152 bytes\n"),
+    ("", "a;", 1_000_000, "", "ok a.js\ntext 2000000\n"),
+    ("", "a;", 1_000_001, "", "error a.js: script ListLong at 32\n"),
+];
+
+// Whether what a dry run over the source writes begins so.
+fn begins(alloc: Global, source: &str, line: &str) -> Result<bool, AllocError> {
+    let mut store = store_of(alloc, Some(SCRIPT), &["a.js"], source.as_bytes(), None)?;
+    let (status, written) = outcome(alloc, "-t s.js -d -p a.js", &mut store, None)?;
+    Ok(status == Status::Done && written.starts_with(line.as_bytes()))
+}
+
 #[test]
 fn limits(rt: HostRuntime) -> Result<(), Fail> {
     let alloc = rt.alloc();
-    let sources = [
-        (nested(alloc, 997)?, "ok a.js\ntext 2993\n"),
-        (nested(alloc, 998)?, "error a.js: syntax Nesting at 1996\n"),
-        (
-            repeated(alloc, "a", ".a", 997, ";")?,
-            "ok a.js\ntext 1996\n",
-        ),
-        (
-            repeated(alloc, "a", ".a", 998, ";")?,
-            "error a.js: syntax Nesting at ",
-        ),
-        (
-            repeated(alloc, "", " ", 2_097_152, "")?,
-            "unmodified a.js\n",
-        ),
-        (
-            repeated(alloc, "", " ", 2_097_153, "")?,
-            "error a.js: longer than 2097152 bytes\n",
-        ),
-        (
-            repeated(alloc, "", "a;", 1_000_000, "")?,
-            "ok a.js\ntext 2000000\n",
-        ),
-        (
-            repeated(alloc, "", "a;", 1_000_001, "")?,
-            "error a.js: script ListLong at 32\n",
-        ),
-    ];
-    for (source, line) in sources.iter() {
-        let mut store = store_of(alloc, Some(SCRIPT), &["a.js"], source.as_bytes(), None)?;
-        let (status, written) = outcome(alloc, "-t s.js -d -p a.js", &mut store, None)?;
-        assert_eq!(rt; status, Status::Done, "for {line}");
-        assert!(rt; written.starts_with(line.as_bytes()), "for {line}");
+    let source = nested(alloc, 997)?;
+    assert!(rt; begins(alloc, source.as_str(), "ok a.js\ntext 2993\n")?);
+    let source = nested(alloc, 998)?;
+    assert!(rt; begins(alloc, source.as_str(), "error a.js: syntax Nesting at 1996\n")?);
+    for (front, piece, times, back, line) in LIMITS.iter() {
+        let source = repeated(alloc, front, piece, *times, back)?;
+        assert!(rt; begins(alloc, source.as_str(), line)?, "for {line}");
     }
     Ok(())
 }

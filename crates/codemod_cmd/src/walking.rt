@@ -36,9 +36,9 @@ fn refuse<O: Sink>(
     ensures fault { IsErrOf result Stop.OutputFault → Rose (O.fault_count out.old) (O.fault_count out.new) }
 {
     let answer = RowAnswer::Error(error);
-    let line = row_text(alloc, name, answer)?;
+    let line = row_text(alloc, name, &answer)?;
     say(out, &line)?;
-    counts.add(answer);
+    counts.add(&answer);
     Ok(())
 }
 
@@ -93,7 +93,7 @@ fn file<E: Engine, S: Store, O: Sink>(
 {
     match one_file(alloc, job, store, out, name) {
         Ok(answer) => {
-            counts.add(answer);
+            counts.add(&answer);
             Ok(())
         }
         Err(Stop::NoMemory) => Err(Stop::NoMemory),

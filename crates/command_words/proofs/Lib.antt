@@ -3,3 +3,4 @@ pub mod NameLists
 pub mod Unrefused
 pub mod Taken
 pub mod Ranges
+pub mod SampleWords

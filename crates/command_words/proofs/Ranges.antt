@@ -10,7 +10,7 @@ use Rattle.cm_text.specs.declared.layout.Layout.{Layout}
 use Rattle.command_words.specs.Invocations.{IsInRanges, are_taken, extensions_of, fuel_of, invocation_in, invocation_of, layout_of, layout_with, made, matches, single_of, tab_width_of}
 use Rattle.command_words.specs.Values.{fuel_in, is_decimal, number_to, one_to}
 
-abbrev Within : ℕ → ℕ → Type 0
+abbrev pub Within : ℕ → ℕ → Type 0
 Within most n = (1 ≤ n) × (n ≤ most)
 
 one_to_within : (most n : ℕ) → IfSome (one_to most n) (Within most)
@@ -20,11 +20,11 @@ one_to_within most n = go (nat_le 1 n && nat_le n most) refl
     go false t = tt
     go true t = let parts = both _ _ t in (leb-true _ _ parts.0, leb-true _ _ parts.1)
 
-when : (b : Bool) (most : ℕ) (o : Option ℕ) → IfSome o (Within most) → IfSome (if b then o else None) (Within most)
+pub when : (b : Bool) (most : ℕ) (o : Option ℕ) → IfSome o (Within most) → IfSome (if b then o else None) (Within most)
 when true most o h = h
 when false most o h = tt
 
-number_within : (most : ℕ) (text : Text) → IfSome (number_to most text) (Within most)
+pub number_within : (most : ℕ) (text : Text) → IfSome (number_to most text) (Within most)
 number_within most text = when (is_decimal text) most _ (one_to_within most (digits_value 10 text))
 
 usual_or : (most usual : ℕ) (read : Text → Option ℕ) (o : Option Text) → Within most usual → ((t : Text) → IfSome (read t) (Within most)) → IfSome (option_map_or read o (Some usual)) (Within most)

@@ -1,3 +1,4 @@
 pub mod Shape
 pub mod Values
 pub mod Invocations
+pub mod Requests

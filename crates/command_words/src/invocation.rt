@@ -1,4 +1,4 @@
-//! What the words of a command line ask for.
+//! What the words of a command line ask for: a run over files, or a sample.
 
 use cm_text::Layout;
 use tree_core::{Name, Names};
@@ -22,4 +22,13 @@ pub struct Invocation {
     pub fail_on_error: bool,
     /// The layout of made text. Its tabs are 1 to 16 columns wide.
     pub layout: Layout,
+}
+
+/// What the words of a command line are.
+#[derive(Drop)]
+pub enum Request {
+    /// A script is run over files and folders.
+    Run(Invocation),
+    /// A sample of so many functions is run, 1 to 20,000.
+    Sample { count: u32 },
 }

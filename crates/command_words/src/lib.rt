@@ -1,16 +1,17 @@
-//! The words of the command line, read as one simple command of `clap`.
+//! The words of the command line, read as one simple command of `clap`, and those of sample mode.
 //!
-//! This is where the way of the data begins: words in, an invocation out. The top call reads the
+//! This is where the way of the data begins: words in, a request out. The top call reads the
 //! script and the files that it names.
 #![tactic(auto)]
 
 mod invocation;
 mod options;
 mod reading;
+mod sample;
 mod shape;
 mod values;
 
-pub use invocation::Invocation;
+pub use invocation::{Invocation, Request};
 pub use reading::read_words;
 
 /// What is printed where the words are not those of the command.

@@ -1,13 +1,13 @@
 //! Lines of words, and what they ask for.
 
-use crate::{Invocation, read_words};
+use crate::{Invocation, Request, read_words};
 use std::alloc::{AllocError, Global};
 use std::test::Fail;
 
 const NO_COMMAND: &str = "usage";
 
 // Lines, with the script, the files, the extensions, what is set, the fuel and the tab width.
-const CASES: [(&str, &str); 41] = [
+const CASES: [(&str, &str); 48] = [
     ("-t s.js a.js", "s.js a.js .js 10000000 4"),
     ("-ts.js a.js", "s.js a.js .js 10000000 4"),
     ("-t=s.js a.js", "s.js a.js .js 10000000 4"),
@@ -67,6 +67,13 @@ const CASES: [(&str, &str); 41] = [
     ("-t s a --dry=true", NO_COMMAND),
     ("-t s a --help", NO_COMMAND),
     ("-t s a -x", NO_COMMAND),
+    ("--sample 1", "sample 1"),
+    ("--sample 20000", "sample 20000"),
+    ("--sample 0", NO_COMMAND),
+    ("--sample 20001", NO_COMMAND),
+    ("--sample 000003", NO_COMMAND),
+    ("--sample 3 x", NO_COMMAND),
+    ("-t s a --sample 3", NO_COMMAND),
 ];
 
 // What the words ask for, with what is set by short names.
@@ -114,7 +121,8 @@ fn reads_lines(rt: HostRuntime) -> Result<(), Fail> {
     for (line, wanted) in CASES {
         let words = words_of(alloc, line)?;
         let answer = match read_words(alloc, words.as_slice())? {
-            Some(read) => shown(alloc, &read)?,
+            Some(Request::Run(read)) => shown(alloc, &read)?,
+            Some(Request::Sample { count }) => format!(in alloc; "sample {count}")?,
             None => String::from_str(alloc, NO_COMMAND)?,
         };
         assert!(rt; answer.as_str() == wanted, "{line}: {answer}");

@@ -1,44 +1,11 @@
 -- What a run writes. A text is a list of bytes.
 use Rattle.std.specs.Prelude.{ℕ, List, [], ◌++◌, length, codes}
 use Rattle.std.specs.Fmt.{decimal}
+use Rattle.run_report.specs.Errors.{error_text}
 use Rattle.run_report.specs.declared.counts.Counts.{Counts}
-use Rattle.run_report.specs.declared.answer.SyntaxKind.{SyntaxKind}
-use Rattle.run_report.specs.declared.answer.SyntaxKind.TheVariants as syntax
-use Rattle.run_report.specs.declared.answer.FaultKind.{FaultKind}
-use Rattle.run_report.specs.declared.answer.FaultKind.TheVariants as fault
-use Rattle.run_report.specs.declared.answer.FormKind.{FormKind}
-use Rattle.run_report.specs.declared.answer.FormKind.TheVariants as form
 use Rattle.run_report.specs.declared.answer.RowError.{RowError}
-use Rattle.run_report.specs.declared.answer.RowError.TheVariants.{Missing, ReadFault, ListFault, WriteFault, Unnamed, FolderDeep, TooLong, NotUtf8, Syntax, Script, Form}
 use Rattle.run_report.specs.declared.answer.RowAnswer.{RowAnswer}
 use Rattle.run_report.specs.declared.answer.RowAnswer.TheVariants.{Ok, Unmodified, Skipped, Error}
-
-unfoldable pub syntax_name : SyntaxKind → List ℕ
-syntax_name syntax.Unexpected = codes "Unexpected"
-syntax_name syntax.Nesting = codes "Nesting"
-
-unfoldable pub fault_name : FaultKind → List ℕ
-fault_name fault.ListLong = codes "ListLong"
-
-unfoldable pub form_name : FormKind → List ℕ
-form_name form.Subset = codes "Subset"
-
--- something of this name at an offset
-unfoldable pub placed : List ℕ → List ℕ → ℕ → List ℕ
-placed what name at = what ++ name ++ codes " at " ++ decimal at
-
-unfoldable pub error_text : RowError → List ℕ
-error_text Missing = codes "missing"
-error_text ReadFault = codes "read fault"
-error_text ListFault = codes "list fault"
-error_text WriteFault = codes "write fault"
-error_text (Unnamed count) = codes "unnamed entries " ++ decimal count
-error_text FolderDeep = codes "folder too deep"
-error_text TooLong = codes "longer than 2097152 bytes"
-error_text (NotUtf8 at) = placed (codes "not ") (codes "UTF-8") at
-error_text (Syntax at kind) = placed (codes "syntax ") (syntax_name kind) at
-error_text (Script at kind) = placed (codes "script ") (fault_name kind) at
-error_text (Form at kind) = placed (codes "form ") (form_name kind) at
 
 -- a word, a file's name and what is said of it, as one line
 unfoldable pub line : List ℕ → List ℕ → List ℕ → List ℕ
@@ -67,3 +34,14 @@ count_line word n = word ++ decimal n ++ codes "\n"
 
 unfoldable pub summary_lines : Counts → List ℕ
 summary_lines c = count_line (codes "errors ") c.errors ++ count_line (codes "unmodified ") c.unmodified ++ count_line (codes "skipped ") c.skipped ++ count_line (codes "ok ") c.ok
+
+-- what came of a sample: the length of the text that the script made, or the row of the script's other answer
+unfoldable pub sample_end : RowAnswer → List ℕ → List ℕ
+sample_end Ok text = count_line (codes "written ") (length text)
+sample_end Unmodified text = count_line (codes "written ") (length text)
+sample_end Skipped text = row_line (codes "sample") Skipped
+sample_end (Error error) text = row_line (codes "sample") (Error error)
+
+-- the lines of a sample of so many functions and so many bytes, by what the script made of it
+unfoldable pub sample_lines : ℕ → ℕ → RowAnswer → List ℕ → List ℕ
+sample_lines count read answer text = count_line (codes "sample ") count ++ count_line (codes "read ") read ++ sample_end answer text

@@ -1,13 +1,7 @@
 //! What a run says of one name.
 
-/// What stands where a source can no longer be read.
-#[derive(Clone, Copy, Debug, PartialEq, Eq)]
-pub enum SyntaxKind {
-    /// No program goes on so.
-    Unexpected,
-    /// More nodes nest than may.
-    Nesting,
-}
+use js_lexer::SyntaxKind;
+use tree_core::Address;
 
 /// Why a script stops.
 #[derive(Clone, Copy, Debug, PartialEq, Eq)]
@@ -23,8 +17,16 @@ pub enum FormKind {
     Subset,
 }
 
-/// Why a file, a folder or a script has no answer. Offsets count bytes.
+/// Why a tree has no text.
 #[derive(Clone, Copy, Debug, PartialEq, Eq)]
+pub enum TreeRule {
+    /// A method is no such method: of the kind `constructor` are exactly those of that name that
+    /// are not static, no accessors, and have a key that is not computed.
+    Method,
+}
+
+/// Why a file, a folder or a script has no answer. Offsets count bytes.
+#[derive(Debug, Drop)]
 pub enum RowError {
     /// Nothing has the name.
     Missing,
@@ -42,16 +44,18 @@ pub enum RowError {
     TooLong,
     /// The byte at the offset is the first that begins no UTF-8 character.
     NotUtf8 { at: u32 },
-    /// The source is no program, or nests too deep.
+    /// The source is no program, or nests too deep: at this offset, for this reason.
     Syntax { at: u32, kind: SyntaxKind },
     /// The script stopped at this offset of its own.
     Script { at: u32, kind: FaultKind },
+    /// The tree that the script made breaks the rule at the node of this address.
+    BadNode { address: Address, rule: TreeRule },
     /// The script is not of the right form at this offset. Of scripts alone.
     Form { at: u32, kind: FormKind },
 }
 
 /// What a run says of one file.
-#[derive(Clone, Copy, Debug, PartialEq, Eq)]
+#[derive(Debug, Drop)]
 pub enum RowAnswer {
     /// The script made a new text.
     Ok,

@@ -28,8 +28,8 @@ impl Counts {
     }
 
     /// Counts one row more.
-    pub fn add(&mut self, answer: RowAnswer)
-        ensures { self.new ≡ counted self.old answer }
+    pub fn add(&mut self, answer: &RowAnswer)
+        ensures { self.new ≡ counted self.old answer.now }
     {
         match answer {
             RowAnswer::Ok => self.ok = self.ok.saturating_add(1),

@@ -5,8 +5,9 @@
 
 mod answer;
 mod counts;
+mod errors;
 mod texts;
 
-pub use answer::{FaultKind, FormKind, RowAnswer, RowError, SyntaxKind};
+pub use answer::{FaultKind, FormKind, RowAnswer, RowError, TreeRule};
 pub use counts::Counts;
-pub use texts::{push_printed, row_text, script_text, summary};
+pub use texts::{error_row, push_printed, row_text, sample_text, script_text, summary};

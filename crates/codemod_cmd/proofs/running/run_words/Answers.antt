@@ -1,16 +1,10 @@
-use Rattle.std.proofs.Common.{rules, ◌≡◌, Some, None, refl, sym, subst, ◌∙◌}
-use Rattle.std.specs.Prelude.{IfOk, OnErr}
-use Rattle.std.specs.Io.KnownBytes.{Appends}
+use Rattle.std.proofs.Common.{rules, ◌≡◌, Some, None, refl, sym, ap, subst, ◌∙◌}
+use Rattle.std.specs.Prelude.{OnErr}
 use Rattle.cm_store.specs.Writing.{AppendsFront}
-use Rattle.run_report.specs.Texts.{script_line}
-use Rattle.run_report.specs.declared.answer.FormKind.TheVariants.{Subset}
-use Rattle.run_report.specs.declared.answer.RowError.TheVariants.{Form}
-use Rattle.codemod_cmd.specs.Rows.{HasBytes, HasNone, faults_in, Rises}
-use Rattle.codemod_cmd.specs.Script.{IsScript, IsNoScript}
-use Rattle.codemod_cmd.specs.Session.{outside, Stays, asked, Stops}
-use Rattle.codemod_cmd.specs.declared.status.Status.TheVariants.{NoScript}
+use Rattle.command_words.specs.declared.invocation.Request.TheVariants.{Run, Sample}
+use Rattle.codemod_cmd.specs.Session.{outside, asked, Stops}
 use Rattle.codemod_cmd.proofs.Fronts.{on_err}
-use Rattle.codemod_cmd.proofs.Endings.{usage_stops, unread, refused_finishes, refused_stops, job_finishes, job_stops}
+use Rattle.codemod_cmd.proofs.Endings.{usage_stops, sample_stops}
 use Rattle.codemod_cmd.proofs.running.run_words.Goals as goal
 
 pub returns-in_err-say-clause-stops : goal.returns-in_err-say-clause-stops
@@ -20,80 +14,22 @@ returns-in_err-say-clause-stops g c =
     let v = outside (g.S.Store.contents c.args.store.now) (g.S.Store.fault_count c.args.store.now) (g.O.Sink.taken_bytes c.say.new.out) in
     let none : asked words ≡ None = search rules in
     let front = subst (AppendsFront w.taken v.taken) c.usage.ensures c.in_err-say.ensures.front in
-    on_err (Stops words w v) c.from_residual-in_err-say.result (usage_stops words w v none refl front)
+    on_err (Stops (asked words) w v) c.from_residual-in_err-say.result (usage_stops (asked words) w v none refl front)
 
-pub returns-in-Err-Refused-clause-stops : goal.returns-in-Err-Refused-clause-stops
-returns-in-Err-Refused-clause-stops g c =
+pub returns-in_err-say-in-Sample-clause-stops : goal.returns-in_err-say-in-Sample-clause-stops
+returns-in_err-say-in-Sample-clause-stops g c =
     let words = c.args.words.now in
     let w = outside (g.S.Store.contents c.args.store.now) (g.S.Store.fault_count c.args.store.now) (g.O.Sink.taken_bytes c.args.out.now) in
-    let v = outside (g.S.Store.contents c.load.new.store) (g.S.Store.fault_count c.load.new.store) (g.O.Sink.taken_bytes c.refuse_script.new.out) in
-    let error = c.in-Err-Refused.error in
-    let command = c.in-Some.command in
-    let asks : asked words ≡ Some command = sym c.in_ok-command.ensures.value ∙ c.in-Some.is in
-    let loads = rw c.in-Err-Refused.field-0-is at c.in-Err-Refused.ensures.loads in
-    let none = subst (λ n. HasNone w.held n error × Rises (faults_in error) w.failed v.failed) c.get.ensures loads in
-    let r = c.refuse_script.result in
-    let front = subst (λ n. OnErr r (AppendsFront w.taken v.taken (script_line n error))) c.get-in-Err-Refused.ensures c.refuse_script.ensures.front in
-    refused_stops words w v command error asks (unread w.held w.failed v.failed command.script error none) c.load.ensures.kept r front
+    let v = outside (g.S.Store.contents c.args.store.now) (g.S.Store.fault_count c.args.store.now) (g.O.Sink.taken_bytes c.say-in-Sample.new.out) in
+    let lines = c.in_ok-lines-in-Sample.lines.items in
+    let asks : asked words ≡ Some (Sample c.in-Sample.count) = sym c.in_ok-request.ensures.value ∙ c.in-Some.is ∙ ap Some c.in-Sample.is in
+    let front : AppendsFront w.taken v.taken lines = subst (AppendsFront w.taken v.taken) c.deref.ensures.value c.in_err-say-in-Sample.ensures.front in
+    on_err (Stops (asked words) w v) c.from_residual-in_err-say-in-Sample.result (sample_stops (asked words) w v c.in-Sample.count lines asks refl c.in_ok-lines-in-Sample.ensures front)
 
-pub returns-in_default-from_script-clause-finishes : goal.returns-in_default-from_script-clause-finishes
-returns-in_default-from_script-clause-finishes g c =
+pub returns-in-Run-clause-stops : goal.returns-in-Run-clause-stops
+returns-in-Run-clause-stops g c =
     let words = c.args.words.now in
     let w = outside (g.S.Store.contents c.args.store.now) (g.S.Store.fault_count c.args.store.now) (g.O.Sink.taken_bytes c.args.out.now) in
-    let v = outside (g.S.Store.contents c.load.new.store) (g.S.Store.fault_count c.load.new.store) (g.O.Sink.taken_bytes c.refuse_script-in_default-from_script.new.out) in
-    let error = Form 0 Subset in
-    let command = c.in-Some.command in
-    let asks : asked words ≡ Some command = sym c.in_ok-command.ensures.value ∙ c.in-Some.is in
-    let bytes = c.in-Ok.script.items in
-    let has : HasBytes w.held command.script bytes = subst (λ n. HasBytes w.held n bytes) c.get.ensures c.in-Ok.ensures.loads in
-    let none : IsNoScript bytes = subst IsNoScript c.deref.ensures.value c.in_default-from_script.ensures in
-    let r = c.refuse_script-in_default-from_script.result in
-    let all = subst (λ n. IfOk r (λ status. (status ≡ NoScript) × Appends w.taken v.taken (script_line n error))) c.get-in_default-from_script.ensures c.refuse_script-in_default-from_script.ensures.all in
-    refused_finishes words w v command error asks (bytes, has, none, refl) c.load.ensures.kept r all
-
-pub returns-in_default-from_script-clause-stops : goal.returns-in_default-from_script-clause-stops
-returns-in_default-from_script-clause-stops g c =
-    let words = c.args.words.now in
-    let w = outside (g.S.Store.contents c.args.store.now) (g.S.Store.fault_count c.args.store.now) (g.O.Sink.taken_bytes c.args.out.now) in
-    let v = outside (g.S.Store.contents c.load.new.store) (g.S.Store.fault_count c.load.new.store) (g.O.Sink.taken_bytes c.refuse_script-in_default-from_script.new.out) in
-    let error = Form 0 Subset in
-    let command = c.in-Some.command in
-    let asks : asked words ≡ Some command = sym c.in_ok-command.ensures.value ∙ c.in-Some.is in
-    let bytes = c.in-Ok.script.items in
-    let has : HasBytes w.held command.script bytes = subst (λ n. HasBytes w.held n bytes) c.get.ensures c.in-Ok.ensures.loads in
-    let none : IsNoScript bytes = subst IsNoScript c.deref.ensures.value c.in_default-from_script.ensures in
-    let r = c.refuse_script-in_default-from_script.result in
-    let front = subst (λ n. OnErr r (AppendsFront w.taken v.taken (script_line n error))) c.get-in_default-from_script.ensures c.refuse_script-in_default-from_script.ensures.front in
-    refused_stops words w v command error asks (bytes, has, none, refl) c.load.ensures.kept r front
-
-pub returns-clause-finishes : goal.returns-clause-finishes
-returns-clause-finishes g c =
-    let words = c.args.words.now in
-    let w = outside (g.S.Store.contents c.args.store.now) (g.S.Store.fault_count c.args.store.now) (g.O.Sink.taken_bytes c.args.out.now) in
-    let x = outside (g.S.Store.contents c.load.new.store) (g.S.Store.fault_count c.load.new.store) (g.O.Sink.taken_bytes c.args.out.now) in
-    let v = outside (g.S.Store.contents c.run_job.new.store) (g.S.Store.fault_count c.run_job.new.store) (g.O.Sink.taken_bytes c.run_job.new.out) in
-    let command = c.in-Some.command in
-    let asks : asked words ≡ Some command = sym c.in_ok-command.ensures.value ∙ c.in-Some.is in
-    let old = c.in-Some-from_script.engine.old.now in
-    let new = c.in-Some-from_script.engine.new.now in
-    let bytes = c.in-Ok.script.items in
-    let has : HasBytes w.held command.script bytes = subst (λ n. HasBytes w.held n bytes) c.get.ensures c.in-Ok.ensures.loads in
-    let is : IsScript old new bytes = subst (IsScript old new) c.deref.ensures.value c.in-Some-from_script.ensures in
-    let stays : Stays w x = record { held = c.load.ensures.kept; failed = c.load.ensures.later; taken = refl } in
-    job_finishes words w x v command old new (asks, (bytes, has, is)) stays c.run_job.result c.run_job.ensures.completes
-
-pub returns-clause-stops : goal.returns-clause-stops
-returns-clause-stops g c =
-    let words = c.args.words.now in
-    let w = outside (g.S.Store.contents c.args.store.now) (g.S.Store.fault_count c.args.store.now) (g.O.Sink.taken_bytes c.args.out.now) in
-    let x = outside (g.S.Store.contents c.load.new.store) (g.S.Store.fault_count c.load.new.store) (g.O.Sink.taken_bytes c.args.out.now) in
-    let v = outside (g.S.Store.contents c.run_job.new.store) (g.S.Store.fault_count c.run_job.new.store) (g.O.Sink.taken_bytes c.run_job.new.out) in
-    let command = c.in-Some.command in
-    let asks : asked words ≡ Some command = sym c.in_ok-command.ensures.value ∙ c.in-Some.is in
-    let old = c.in-Some-from_script.engine.old.now in
-    let new = c.in-Some-from_script.engine.new.now in
-    let bytes = c.in-Ok.script.items in
-    let has : HasBytes w.held command.script bytes = subst (λ n. HasBytes w.held n bytes) c.get.ensures c.in-Ok.ensures.loads in
-    let is : IsScript old new bytes = subst (IsScript old new) c.deref.ensures.value c.in-Some-from_script.ensures in
-    let stays : Stays w x = record { held = c.load.ensures.kept; failed = c.load.ensures.later; taken = refl } in
-    job_stops words w x v command old new (asks, (bytes, has, is)) stays c.run_job.result c.run_job.ensures.halts
+    let v = outside (g.S.Store.contents c.run_command.new.store) (g.S.Store.fault_count c.run_command.new.store) (g.O.Sink.taken_bytes c.run_command.new.out) in
+    let asks : asked words ≡ Some (Run c.in-Run.command) = sym c.in_ok-request.ensures.value ∙ c.in-Some.is ∙ ap Some c.in-Run.is in
+    subst (λ r. OnErr c.run_command.result (Stops r w v)) (sym asks) c.run_command.ensures.stops

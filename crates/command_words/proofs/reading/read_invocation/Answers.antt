@@ -5,7 +5,7 @@ use Rattle.clap.specs.Words.{app_of, found_of, kind_of, rows_of}
 use Rattle.command_words.specs.Invocations.{IsInRanges}
 use Rattle.command_words.proofs.Ranges.{in_ranges}
 use Rattle.command_words.proofs.Taken.{not_taken, taken}
-use Rattle.command_words.proofs.reading.read_words.Goals as goal
+use Rattle.command_words.proofs.reading.read_invocation.Goals as goal
 
 pub returns-in-Ok : goal.returns-in-Ok
 returns-in-Ok c =

@@ -1,0 +1,22 @@
+//! Sources as whole trees: the first line that names an interpreter, the program, its comments, and
+//! the numbers of its nodes and names of its places.
+//!
+//! The reader below gives a tree whose nodes have numbers as they were read. Here each comment is
+//! seated beside a node, and then one walk numbers the nodes in preorder, names the places, and
+//! gives the nodes their comments.
+#![tactic(auto)]
+
+mod attached;
+mod children;
+mod front;
+mod lines;
+mod numbering;
+mod quasis;
+mod seating;
+#[cfg(test)]
+mod tests;
+mod waiting;
+mod whole;
+
+pub use js_lexer::Refusal;
+pub use whole::parse;

@@ -1,0 +1,92 @@
+//! Whole sources.
+
+ghost use Rattle.std.specs.Prelude.{◌≡◌, ◌+◌, ◌≤◌, length, Some, IfErr, IfOk};
+ghost use Rattle.tree_core.specs.Height.{height};
+ghost use Rattle.tree_core.specs.View.{syntax};
+ghost use Rattle.js_lexer.specs.Cursors.{SpansFit};
+ghost use Rattle.js_parser.specs.Refusals.{RefusedWithin};
+ghost use Rattle.js_source.specs.Sizes.{node_count, place_count};
+
+use crate::attached::Attached;
+use crate::front::front_of;
+use crate::numbering::{Given, number};
+use crate::quasis::{narrowed, widened};
+use crate::seating::{Laid, seat};
+use cm_text::Source;
+use js_lexer::Refusal;
+use js_parser::{MOST_LEVELS, Read, program};
+use sqlite_items::Items;
+use std::alloc::{AllocError, Global};
+use tree_core::{Parsed, Span, Spans, Tree};
+
+// The comments of the source with their nodes.
+fn attached(alloc: Global, laid: Laid<'_>, tree: &Tree) -> Result<Attached, AllocError> {
+    let count = laid.comments.len();
+    let mut attached = Attached::new(alloc, laid.spans.len(), count)?;
+    if count > 0 {
+        seat(laid, &mut attached, MOST_LEVELS, tree, 0, count)?;
+    }
+    Ok(attached)
+}
+
+// The tree with its numbers, place names and comments, and the stretches of its nodes by number.
+fn numbered(alloc: Global, laid: Laid<'_>, tree: Tree) -> Result<(Tree, Spans), AllocError>
+    ensures fit { IfOk result (λ r. SpansFit (length laid.entry.source.now) r.1) }
+    ensures nodes { IfOk result (λ r. length r.1 ≡ node_count (syntax r.0)) }
+    ensures few { IfOk result (λ r. node_count (syntax r.0) ≤ 4194304) }
+    ensures places { IfOk result (λ r. 1 + place_count (syntax r.0) ≤ 67108864) }
+    ensures low { IfOk result (λ r. height (syntax r.0) ≤ 1000) }
+    ensures first { IfOk result (λ r. r.0.from ≡ Some 0) }
+{
+    let attached = attached(alloc, laid, &tree)?;
+    let given = Given {
+        alloc,
+        laid,
+        attached: &attached,
+    };
+    number(&given, tree, MOST_LEVELS)
+}
+
+/// The tree that the text spells, with its comments and the stretches of its nodes and comments.
+///
+/// Nodes are numbered in preorder from 0, the places of a node in the order of its slots. The
+/// stretch of the program is the whole text, that of a template's characters has no marks in it. A
+/// first line that begins with `#!`, perhaps behind U+FEFF, is the program's interpreter (ECMA-262,
+/// 14th edition, clause 12.5). A refusal names the byte offset of a token, or is for want of memory.
+pub fn parse(alloc: Global, source: &Source) -> Result<Parsed, Refusal>
+    ensures refused { IfErr result (RefusedWithin (length source.now)) }
+    ensures spans { IfOk result (λ parsed. length parsed.spans ≡ node_count (syntax parsed.tree)) }
+    ensures within { IfOk result (λ parsed. SpansFit (length source.now) parsed.spans) }
+    ensures comments { IfOk result (λ parsed. SpansFit (length source.now) parsed.comments) }
+    ensures first { IfOk result (λ parsed. parsed.tree.from ≡ Some 0) }
+    ensures nodes { IfOk result (λ parsed. node_count (syntax parsed.tree) ≤ 4194304) }
+    ensures places { IfOk result (λ parsed. 1 + place_count (syntax parsed.tree) ≤ 67108864) }
+    ensures low { IfOk result (λ parsed. height (syntax parsed.tree) ≤ 1000) }
+{
+    let text = source.bytes();
+    let front = front_of(alloc, text)?;
+    let read = program(alloc, source, front.from, front.interpreter)?;
+    let Read {
+        tree,
+        cursor,
+        quasis,
+    } = read;
+    let count = cursor.comments().len();
+    let (spans, comments) = cursor.into_spans();
+    let spans = widened(
+        narrowed(spans, quasis.as_slice()),
+        tree.from,
+        text.len() as u32,
+    );
+    let laid = Laid {
+        source,
+        spans: spans.as_slice(),
+        comments: comments.as_slice(),
+    };
+    let (tree, spans) = numbered(alloc, laid, tree)?;
+    Ok(Parsed {
+        tree,
+        spans,
+        comments,
+    })
+}

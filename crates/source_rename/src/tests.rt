@@ -1,0 +1,1 @@
+//! Renames of small sources whose trees are made by hand.
