@@ -74,12 +74,7 @@ fn is_from(word: Word) -> bool
 }
 
 // The text with the edits made.
-fn text(
-    alloc: Global,
-    search: &Search<'_>,
-    tree: &Tree,
-    new: &[u8],
-) -> Result<Vec<u8>, AllocError>
+fn text(alloc: Global, search: &Search<'_>, tree: &Tree, new: &[u8]) -> Result<Vec<u8>, AllocError>
     ensures { is_from search.now.word ≡ false → IfOk result (λ out. out.items ≡ patched search.now.source.now new.now 0 (edits search.now.source.now search.now.spans.now search.now.old.now search.now.word Seat.Free (syntax tree.now))) }
 {
     let found = edits(alloc, search, tree)?;
