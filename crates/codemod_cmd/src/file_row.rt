@@ -49,10 +49,12 @@ impl FileRow {
         ensures { MatchOption result (HasNoText (row_of self.now)) (λ text. HasText (row_of self.now) text.now) }
     {
         match self {
-            FileRow::Answered(Outcome {
-                answer: RowAnswer::Ok,
-                text,
-            }) => Some(text),
+            FileRow::Answered(
+                Outcome {
+                    answer: RowAnswer::Ok,
+                    text,
+                },
+            ) => Some(text),
             _ => None,
         }
     }

@@ -150,9 +150,7 @@ fn with_counts(alloc: Global, row: &str) -> Result<String, AllocError> {
     let errors = u8::from(row.starts_with("error"));
     let unmodified = u8::from(row.starts_with("unmodified"));
     let ok = u8::from(row.starts_with("ok"));
-    format!(in alloc;
-        "{row}errors {errors}\nunmodified {unmodified}\nskipped 0\nok {ok}\n"
-    )
+    format!(in alloc; "{row}errors {errors}\nunmodified {unmodified}\nskipped 0\nok {ok}\n")
 }
 
 #[test]
@@ -329,7 +327,10 @@ fn each_call_of_the_store_fails(rt: HostRuntime) -> Result<(), Fail> {
     for call in 1..10u64 {
         let wanted = written_at(alloc, call)?;
         let wanted = wanted.as_str();
-        assert!(rt; comes_out_at(alloc, call, &NAMES, Status::HadErrors, wanted)?, "{call}");
+        assert!(rt;
+            comes_out_at(alloc, call, &NAMES, Status::HadErrors, wanted)?,
+            "{call}"
+        );
     }
     // A file that is missing is listed and not read.
     let names = ["b.js", "c.js"];
@@ -422,9 +423,21 @@ const LIMITS: [(&str, &str, u32, &str, &str); 7] = [
     ("a", ".a", 998, ";", "error a.js: syntax Nesting at "),
     ("let a", ".a", 1, "", "error a.js: syntax Unexpected at 5\n"),
     ("", " ", 2_097_152, "", "unmodified a.js\n"),
-    ("", " ", 2_097_153, "", "error a.js: longer than 2097152 bytes\n"),
+    (
+        "",
+        " ",
+        2_097_153,
+        "",
+        "error a.js: longer than 2097152 bytes\n",
+    ),
     ("", "a;", 1_000_000, "", "ok a.js\ntext 2000000\n"),
-    ("", "a;", 1_000_001, "", "error a.js: script ListLong at 32\n"),
+    (
+        "",
+        "a;",
+        1_000_001,
+        "",
+        "error a.js: script ListLong at 32\n",
+    ),
 ];
 
 // Whether what a dry run over the source writes begins so.
@@ -440,7 +453,13 @@ fn limits(rt: HostRuntime) -> Result<(), Fail> {
     let source = nested(alloc, 997)?;
     assert!(rt; begins(alloc, source.as_str(), "ok a.js\ntext 2993\n")?);
     let source = nested(alloc, 998)?;
-    assert!(rt; begins(alloc, source.as_str(), "error a.js: syntax Nesting at 1996\n")?);
+    assert!(rt;
+        begins(
+            alloc,
+            source.as_str(),
+            "error a.js: syntax Nesting at 1996\n"
+        )?
+    );
     for (front, piece, times, back, line) in LIMITS.iter() {
         let source = repeated(alloc, front, piece, *times, back)?;
         assert!(rt; begins(alloc, source.as_str(), line)?, "for {line}");

@@ -6,8 +6,7 @@ ghost use Rattle.codemod_cmd.specs.Changes.{change_of};
 
 use crate::script::{Renaming, after, is_end};
 
-const PRINTING: &[u8] =
-    b"module.exports = (file, api) => api.jscodeshift(file.source).toSource();";
+const PRINTING: &[u8] = b"module.exports = (file, api) => api.jscodeshift(file.source).toSource();";
 
 /// What a script does to a source.
 #[derive(Clone, Copy, Debug)]
