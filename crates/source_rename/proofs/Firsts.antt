@@ -1,5 +1,5 @@
 -- What the first slots of a node hold.
-use Rattle.std.proofs.Common.{◌≡◌, ℕ, false, ◌&&◌, List, [], ◌∷◌, map, slice_get, Option, Some, None, refl}
+use Rattle.std.proofs.Common.{◌≡◌, ℕ, false, ◌&&◌, List, [], ◌∷◌, map, slice_get, Some, None, refl}
 use Rattle.tree_core.specs.declared.span.Span.{Span}
 use Rattle.tree_core.specs.declared.tree.Slot.{Slot}
 use Rattle.tree_core.specs.View.{slot_view, slots_of}
