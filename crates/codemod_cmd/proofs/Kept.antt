@@ -4,7 +4,7 @@ use Rattle.std.specs.Prelude.{Option, if◌then◌else◌}
 use Rattle.cm_store.specs.Contents.{Contents, replaced}
 use Rattle.command_words.specs.declared.invocation.Invocation.{Invocation}
 use Rattle.command_words.specs.declared.invocation.Request.{Request}
-use Rattle.command_words.specs.declared.invocation.Request.TheVariants.{Run, Sample}
+use Rattle.command_words.specs.declared.invocation.Request.TheVariants.{Run}
 use Rattle.run_report.specs.declared.answer.RowAnswer.{RowAnswer}
 use Rattle.run_report.specs.declared.answer.RowAnswer.TheVariants.{Ok, Unmodified, Skipped, Error}
 use Rattle.codemod_cmd.specs.Rows.{Row, answered, refused, unwritten, IsRow, leaves, after}

@@ -1,11 +1,10 @@
 -- The rows of sources: of those that have no tree, and of new texts.
 use Rattle.std.proofs.Common.{◌≡◌, ℕ, ◌<◌, ◌≤◌, Bool, true, false, List, length, inr, arith}
-use Rattle.std.specs.Prelude.{Result, if◌then◌else◌, nat_lt}
+use Rattle.std.specs.Prelude.{if◌then◌else◌, nat_lt}
 use Rattle.std.specs.Prelude.{Ok as Good, Err as Bad}
 use Rattle.std.specs.Str.{is_utf8}
 use Rattle.std.specs.Str.Lossy.{utf8_valid_len}
 use Rattle.cm_text.specs.Text.{source_of}
-use Rattle.cm_text.specs.declared.fault.TextFault.{TextFault}
 use Rattle.cm_text.specs.declared.fault.TextFault.TheVariants.{TooLong, NotUtf8}
 use Rattle.cm_text.specs.declared.source.TheConstants.{MAX_LENGTH}
 use Rattle.js_lexer.specs.declared.fault.SyntaxKind.{SyntaxKind}

@@ -1,4 +1,4 @@
-use Rattle.std.proofs.Common.{◌≡◌, ◌≤◌, refl, sym, subst, inr}
+use Rattle.std.proofs.Common.{◌≤◌, refl, sym, subst, inr}
 use Rattle.tree_core.specs.View.{syntax}
 use Rattle.first_rename.specs.Names.{count_of}
 use Rattle.codemod_cmd.specs.Script.{renames}
