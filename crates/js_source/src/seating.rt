@@ -10,7 +10,7 @@ use crate::attached::{Attached, Side};
 use crate::children::{child_at, place_count};
 use crate::lines::has_line_end;
 use cm_text::Source;
-use js_lexer::{Refusal, next};
+use js_lexer::next;
 use js_tokens::Goal;
 use std::alloc::AllocError;
 use tree_core::{Span, Tree};

@@ -15,9 +15,8 @@ use crate::seating::{Laid, seat};
 use cm_text::Source;
 use js_lexer::Refusal;
 use js_parser::{MOST_LEVELS, Read, program};
-use sqlite_items::Items;
 use std::alloc::{AllocError, Global};
-use tree_core::{Parsed, Span, Spans, Tree};
+use tree_core::{Parsed, Spans, Tree};
 
 // The comments of the source with their nodes.
 fn attached(alloc: Global, laid: Laid<'_>, tree: &Tree) -> Result<Attached, AllocError> {
