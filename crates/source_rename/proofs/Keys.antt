@@ -1,5 +1,5 @@
 -- The key of a method, which is in its first slot.
-use Rattle.std.proofs.Common.{◌≡◌, ℕ, false, List, [], ◌∷◌, map, slice_get, Option, Some, None, refl}
+use Rattle.std.proofs.Common.{◌≡◌, ℕ, false, List, [], ◌∷◌, map, slice_get, Some, None, refl}
 use Rattle.tree_core.specs.declared.tree.Slot.{Slot}
 use Rattle.tree_core.specs.View.{slot_view, slots_of}
 use Rattle.source_rename.specs.Methods.{key_named, holds_named}

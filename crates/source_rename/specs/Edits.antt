@@ -1,7 +1,6 @@
 -- A source in which the stretches of identifiers give way to a name.
-use Rattle.std.specs.Prelude.{ℕ, Bool, true, false, ◌&&◌, if◌then◌else◌, List, [], ◌∷◌, ◌++◌, Option, Some, None, length, drop, nat_le, slice_range, slice_get}
+use Rattle.std.specs.Prelude.{ℕ, Bool, ◌&&◌, if◌then◌else◌, List, [], ◌∷◌, ◌++◌, Option, Some, None, length, drop, nat_le, slice_range, slice_get}
 use Rattle.js_tokens.specs.declared.word.Word.{Word}
-use Rattle.js_tokens.specs.declared.word.Word.TheVariants as w
 use Rattle.tree_core.specs.declared.span.Span.{Span}
 use Rattle.tree_core.specs.Syntax.{Syntax, node, Slots, no_slots, slot, Places, no_places, hole, place}
 use Rattle.first_rename.specs.Names.{is_named}
@@ -11,11 +10,6 @@ use Rattle.source_rename.specs.declared.places.Seat.TheVariants.{Free}
 use Rattle.source_rename.specs.declared.places.Spelling.{Spelling}
 use Rattle.source_rename.specs.declared.places.Spelling.TheVariants.{Name, Grouped, Ended, End}
 use Rattle.source_rename.specs.Seats.{first_seat, spelling_at}
-
--- the word `from`, which alone is told from other names behind an export (ECMA-262, clause 16.2.3)
-abbrev pub is_from : Word → Bool
-is_from w.From = true
-is_from _ = false
 
 abbrev pub edit_of : List ℕ → Seat → Option Span → List Edit
 edit_of s seat None = []

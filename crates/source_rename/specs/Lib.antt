@@ -1,3 +1,5 @@
 pub mod Edits
+pub mod Exports
 pub mod Methods
 pub mod Seats
+pub mod Whole

@@ -1,5 +1,5 @@
 -- Methods whose kind is not the one of their key (ESTree, MethodDefinition; ECMA-262, clause 15.7.1).
-use Rattle.std.specs.Prelude.{ℕ, ◌+◌, Bool, true, false, ◌&&◌, ◌==◌, if◌then◌else◌, List, [], ◌∷◌, Option, Some, None, min, not, length, slice_get, codes}
+use Rattle.std.specs.Prelude.{ℕ, ◌+◌, Bool, false, ◌&&◌, ◌==◌, if◌then◌else◌, List, [], ◌∷◌, Option, Some, None, min, not, length, slice_get, codes}
 use Rattle.std.specs.Str.{bytes_eq}
 use Rattle.std.specs.Global.{Vec}
 use Rattle.tree_core.specs.declared.scalars.Scalar.{Scalar}

@@ -1,5 +1,5 @@
 -- Where a name that is a word of the grammar would be read as something else (ECMA-262, clauses 14.7.5 and 15.7).
-use Rattle.std.specs.Prelude.{ℕ, Bool, true, false, ◌||◌, ◌==◌, if◌then◌else◌, List, Option, Some, None, Result, Ok, Err, length, nat_le, slice_get}
+use Rattle.std.specs.Prelude.{ℕ, Bool, true, false, ◌||◌, ◌==◌, if◌then◌else◌, List, Option, Some, Result, Ok, Err, length, nat_le, slice_get}
 use Rattle.js_tokens.specs.declared.punctuator.Punctuator.TheVariants.{OpenBracket, CloseParen, CloseBrace, Semicolon, Assign}
 use Rattle.js_tokens.specs.declared.token.Goal.TheVariants.{Div}
 use Rattle.js_tokens.specs.declared.token.Token.{Token}

@@ -6,7 +6,7 @@ use tree_core::Address;
 /// Why there is no new text.
 #[derive(Debug, Drop)]
 pub enum RenameError {
-    /// More than `MAX_NAMES` identifiers have the old name.
+    /// More than 1,000,000 identifiers have the old name.
     ListLong,
     /// The method at this address, the first in preorder, would begin or cease to be its class's
     /// constructor.

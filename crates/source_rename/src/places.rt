@@ -2,6 +2,7 @@
 
 ghost use Rattle.std.specs.Prelude.{◌≡◌, slice_get};
 ghost use Rattle.js_lexer.specs.Cursors as cursors;
+ghost use Rattle.source_rename.specs.Exports as exports;
 ghost use Rattle.source_rename.specs.Seats as spec;
 
 use cm_text::Source;
@@ -110,7 +111,9 @@ fn kind_behind(source: &Source, at: u32) -> TokenKind
 }
 
 /// Where the token behind the offset begins, if it is a whole one.
-pub fn start_behind(source: &Source, at: u32) -> Option<u32> {
+pub fn start_behind(source: &Source, at: u32) -> Option<u32>
+    ensures { result ≡ exports.start_behind source.now at }
+{
     if at as usize > source.bytes().len() {
         return None;
     }

@@ -1,11 +1,12 @@
 //! The rename of a whole source.
 
-ghost use Rattle.std.specs.Prelude.{◌≡◌, ◌<◌, ◌↔◌, ℕ, List, false, IfOk, IsErrOf};
+ghost use Rattle.std.specs.Prelude.{◌≡◌, ◌<◌, ◌↔◌, ℕ, List, IfOk, IsErrOf};
 ghost use Rattle.js_tokens.specs.Words.{word_of};
 ghost use Rattle.tree_core.specs.View.{syntax};
 ghost use Rattle.first_rename.specs.Names.{count_of};
-ghost use Rattle.source_rename.specs.Edits.{is_from, edits, patched};
-ghost use Rattle.source_rename.specs.Edits as spec;
+ghost use Rattle.source_rename.specs.Edits.{patched};
+ghost use Rattle.source_rename.specs.Whole.{all_edits};
+ghost use Rattle.source_rename.specs.Whole as spec;
 ghost use Rattle.source_rename.specs.Methods.{bad_method};
 
 use crate::edits::{Search, edits};
@@ -13,7 +14,6 @@ use crate::exports::end_exports;
 use crate::fault::RenameError;
 use crate::methods::{Names, bad_method};
 use crate::patch::patch;
-use crate::places::Seat;
 use cm_text::Source;
 use first_rename::count;
 use js_tokens::Word;
@@ -46,7 +46,7 @@ pub fn rename(
 
     // It is the source, with `new` in the place of each identifier named `old`: in parentheses or
     // before a `;` where `new` is a word that would be read as something else there.
-    ensures text { is_from (word_of new.now) ≡ false → IfOk result (λ out. out.items ≡ patched source.now new.now 0 (edits source.now parsed.now.spans old.now (word_of new.now) Seat.Free (syntax parsed.now.tree))) }
+    ensures text { IfOk result (λ out. out.items ≡ patched source.now new.now 0 (all_edits source.now parsed.now.spans old.now (word_of new.now) (syntax parsed.now.tree))) }
 {
     if count(&parsed.tree, old) > MAX_NAMES {
         return Err(RenameError::ListLong);
@@ -74,17 +74,12 @@ fn is_from(word: Word) -> bool
 }
 
 // The text with the edits made.
-fn text(
-    alloc: Global,
-    search: &Search<'_>,
-    tree: &Tree,
-    new: &[u8],
-) -> Result<Vec<u8>, AllocError>
-    ensures { is_from search.now.word ≡ false → IfOk result (λ out. out.items ≡ patched search.now.source.now new.now 0 (edits search.now.source.now search.now.spans.now search.now.old.now search.now.word Seat.Free (syntax tree.now))) }
+fn text(alloc: Global, search: &Search<'_>, tree: &Tree, new: &[u8]) -> Result<Vec<u8>, AllocError>
+    ensures { IfOk result (λ out. out.items ≡ patched search.now.source.now new.now 0 (all_edits search.now.source.now search.now.spans.now search.now.old.now search.now.word (syntax tree.now))) }
 {
     let found = edits(alloc, search, tree)?;
     if is_from(search.word) {
-        let ended = end_exports(alloc, search, tree, &found)?;
+        let ended = end_exports(alloc, search, tree.slots.as_slice(), &found)?;
         return patch(alloc, search.source.bytes(), new, &ended);
     }
     patch(alloc, search.source.bytes(), new, &found)
