@@ -20,8 +20,8 @@ use Rattle.js_lexer.specs.declared.fault.SyntaxKind.TheVariants.{Unexpected, Nes
 use Rattle.js_tokens.specs.Words.{word_of}
 use Rattle.js_lexer.specs.Cursors.{SpansFit}
 use Rattle.js_source.specs.Sizes.{node_count}
-use Rattle.source_rename.specs.Edits.{is_from, edits, patched}
-use Rattle.source_rename.specs.declared.places.Seat.TheVariants.{Free}
+use Rattle.source_rename.specs.Edits.{patched}
+use Rattle.source_rename.specs.Whole.{all_edits}
 use Rattle.source_rename.specs.Methods.{bad_method}
 use Rattle.run_report.specs.declared.answer.TreeRule.TheVariants.{Method}
 use Rattle.run_report.specs.declared.answer.FaultKind.TheVariants.{ListLong}
@@ -69,11 +69,11 @@ pub record IsParsed (s : List ℕ) (p : Parsed) : Type 0 where
 abbrev pub HasTree : List ℕ → Type 0
 HasTree s = ((spans : List Span) × (t : Tree) × IsTreeOf s spans t) ⊎ (IsOther s × ((p : Parsed) × IsParsed s p))
 
--- the text is the source with `new` in the place of each identifier named `old`, unless `new` is `from`. No method begins or ceases to be a constructor
+-- the text is the source with `new` in the place of each identifier named `old`, in parentheses or before a `;` where it would be read as something else. No method begins or ceases to be a constructor
 pub record Rewrites (old new s : List ℕ) (p : Parsed) (out : List ℕ) : Type 0 where
   pub few : count_of old (syntax p.tree) ≤ max_items
   pub methods : bad_method old new (syntax p.tree) ≡ None
-  pub text : is_from (word_of new) ≡ false → out ≡ patched s new 0 (edits s p.spans old (word_of new) Free (syntax p.tree))
+  pub text : out ≡ patched s new 0 (all_edits s p.spans old (word_of new) (syntax p.tree))
 
 -- the text that is made of the source
 abbrev pub Makes : Change → List ℕ → List ℕ → Type 0
