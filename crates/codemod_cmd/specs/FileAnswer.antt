@@ -69,7 +69,7 @@ pub record IsParsed (s : List ℕ) (p : Parsed) : Type 0 where
 abbrev pub HasTree : List ℕ → Type 0
 HasTree s = ((spans : List Span) × (t : Tree) × IsTreeOf s spans t) ⊎ (IsOther s × ((p : Parsed) × IsParsed s p))
 
--- the text is the source with `new` in the place of each identifier named `old`, with the parentheses and `;` that it needs there. No method begins or ceases to be a constructor
+-- the text is the source with `new` in the place of each identifier named `old`, in parentheses or before a `;` where it would be read as something else. No method begins or ceases to be a constructor
 pub record Rewrites (old new s : List ℕ) (p : Parsed) (out : List ℕ) : Type 0 where
   pub few : count_of old (syntax p.tree) ≤ max_items
   pub methods : bad_method old new (syntax p.tree) ≡ None

@@ -153,20 +153,33 @@ fn with_counts(alloc: Global, row: &str) -> Result<String, AllocError> {
     format!(in alloc; "{row}errors {errors}\nunmodified {unmodified}\nskipped 0\nok {ok}\n")
 }
 
+// Whether a dry run over one file with this source writes so.
+fn dry_run_writes<'a>(
+    alloc: Global,
+    script: &'a str,
+    source: &'a [u8],
+    wanted: &'a str,
+) -> Result<bool, AllocError> {
+    let run = Run {
+        words: "-t s.js -d -p a.js",
+        script: Some(script),
+        names: &["a.js"],
+        source,
+        ends: Status::Done,
+        wanted,
+    };
+    comes_out(alloc, &run, None)
+}
+
 #[test]
 fn rows(rt: HostRuntime) -> Result<(), Fail> {
     let alloc = rt.alloc();
     for (script, source, row) in ROWS.iter() {
         let wanted = with_counts(alloc, row)?;
-        let run = Run {
-            words: "-t s.js -d -p a.js",
-            script: Some(script),
-            names: &["a.js"],
-            source,
-            ends: Status::Done,
-            wanted: wanted.as_str(),
-        };
-        assert!(rt; comes_out(alloc, &run, None)?, "for {row}");
+        assert!(rt;
+            dry_run_writes(alloc, script, source, wanted.as_str())?,
+            "for {row}"
+        );
     }
     Ok(())
 }
@@ -301,12 +314,12 @@ fn written_at(alloc: Global, call: u64) -> Result<String, AllocError> {
 }
 
 // Whether the run comes out so where one call of the store fails.
-fn comes_out_at(
+fn comes_out_at<'a>(
     alloc: Global,
     call: u64,
-    names: &[&str],
+    names: &'a [&'a str],
     ends: Status,
-    wanted: &str,
+    wanted: &'a str,
 ) -> Result<bool, AllocError> {
     let run = Run {
         words: "-t s.js --fail-on-error a.js b.js c.js",

@@ -1,5 +1,5 @@
 -- The words of sample mode, as slices of strings.
-use Rattle.std.proofs.Common.{◌≡◌, ◌≢◌, ◌<◌, ◌≤◌, ℕ, Bool, List, [], ◌∷◌, Option, Some, None, false, refl, sym, ap, arith, length, get_or, map, string_bytes, rules}
+use Rattle.std.proofs.Common.{◌≡◌, ◌≢◌, ◌<◌, List, [], ◌∷◌, None, false, refl, sym, ap, arith, length, get_or, map, string_bytes}
 use Rattle.std.specs.Prelude.{IfSome, codes, nat_le}
 use Rattle.std.specs.Str.{bytes_eq}
 use Rattle.std.specs.declared.string.String.{String}
