@@ -14,12 +14,29 @@ const GRAMMAR = /^(Unexpected|Unterminated|Expect|Invalid (number|Unicode escape
 exports.acorn = acorn;
 exports.isBuilt = () => fs.existsSync(PROGRAM);
 
-// "reads", or acorn's message.
+// What acorn reads and the profile leaves out: `let`, `await` and `yield` as identifiers, functions as the
+// bodies of `if` or of labels, texts as the names of exports, and HTML-like comments.
+const OUTSIDE = ["let", "await", "yield"];
+
+function isOutside(node) {
+  if (node === null || typeof node !== "object") return false;
+  if (node.type === "Identifier" && OUTSIDE.includes(node.name)) return true;
+  if (node.type === "IfStatement" && [node.consequent, node.alternate].some((body) => body?.type === "FunctionDeclaration")) return true;
+  if (node.type === "LabeledStatement" && node.body.type === "FunctionDeclaration") return true;
+  if ([node.local, node.exported, node.imported].some((name) => name?.type === "Literal")) return true;
+  return Object.values(node).some(isOutside);
+}
+
+// "reads", "outside", or acorn's message.
 function readBy(text, sourceType) {
-  const options = { ecmaVersion: 2022, sourceType, allowHashBang: true, allowReturnOutsideFunction: true };
+  let html = false;
+  const onComment = (block, comment, start) => {
+    html ||= !/^(\/[/*]|#!)/.test(text.slice(start));
+  };
+  const options = { ecmaVersion: 2022, sourceType, allowHashBang: true, allowReturnOutsideFunction: true, onComment };
   try {
-    acorn.parse(text, options);
-    return "reads";
+    const tree = acorn.parse(text, options);
+    return html || isOutside(tree) ? "outside" : "reads";
   } catch (error) {
     if (!(error instanceof SyntaxError)) throw error;
     return error.message;
@@ -27,10 +44,12 @@ function readBy(text, sourceType) {
 }
 
 // What acorn says of a text, at best, and the row that the program must give: null where that is free,
-// since acorn refuses it for an early error that is no matter of the grammar.
+// since the profile leaves the text out, or acorn refuses it for an early error that is no matter of the
+// grammar.
 exports.wanted = (text) => {
   const answers = [readBy(text, "module"), readBy(text, "script")];
   if (answers.includes("reads")) return { says: "reads", row: "unmodified" };
+  if (answers.includes("outside")) return { says: "outside", row: null };
   const told = answers.filter((answer) => !answer.startsWith("'import' and 'export'"));
   const row = told.every((answer) => GRAMMAR.test(answer)) ? "syntax" : null;
   return { says: told.join(" / "), row };
