@@ -235,6 +235,26 @@ abbrev pub is_method_value : Flow → Form → Bool
 is_method_value flow (f.MethodValue other) = same_flow flow other
 is_method_value flow _ = false
 
+abbrev pub is_export_specifier : Form → Bool
+is_export_specifier f.ExportSpecifier = true
+is_export_specifier f.ExportShorthand = true
+is_export_specifier _ = false
+
+-- the forms that a place for a name, a key or a pattern that declares takes
+abbrev pub takes_name : Category → Form → ℕ → Bool
+takes_name c.Binding form level = is_name_form form || is_pattern 0 form level
+takes_name c.BindingValue form level = is_name_form form || is_pattern 0 form level || is_default 0 form level
+takes_name c.BindingElement form level = is_name_form form || is_pattern 0 form level || is_default 0 form level || is_rest_of 0 form level
+takes_name c.BindingProperty form level = is_property_of 0 form level
+takes_name c.Name form level = is_name_form form
+takes_name c.AnyName form level = is_any_name form
+takes_name c.SuperMember form level = is_any_name form
+takes_name c.Member form level = is_any_name form || is_private form
+takes_name c.ObjectKey form level = is_key form
+takes_name c.ClassKey form level = is_key form || is_private form
+takes_name c.Source form level = is_string form
+takes_name _ form level = false
+
 -- the forms that a place of the table takes in no parentheses
 abbrev pub takes_bare : Category → Form → ℕ → Bool
 takes_bare c.Item form level = is_item form level
@@ -252,25 +272,13 @@ takes_bare c.Argument form level = is_spread form
 takes_bare c.Element form level = is_spread form
 takes_bare c.Callee form level = is_new form
 takes_bare c.Template f.Template level = level == 0
-takes_bare c.Binding form level = is_name_form form || is_pattern 0 form level
-takes_bare c.BindingValue form level = is_name_form form || is_pattern 0 form level || is_default 0 form level
-takes_bare c.BindingElement form level = is_name_form form || is_pattern 0 form level || is_default 0 form level || is_rest_of 0 form level
-takes_bare c.BindingProperty form level = is_property_of 0 form level
-takes_bare c.Name form level = is_name_form form
-takes_bare c.AnyName form level = is_any_name form
-takes_bare c.Member form level = is_any_name form || is_private form
-takes_bare c.SuperMember form level = is_any_name form
-takes_bare c.ObjectKey form level = is_key form
-takes_bare c.ClassKey form level = is_key form || is_private form
 takes_bare (c.Method flow) form level = is_method_value flow form
 takes_bare c.Getter f.GetterValue level = true
 takes_bare c.Setter f.SetterValue level = true
-takes_bare c.Source form level = is_string form
 takes_bare c.ImportSpecifier f.ImportSpecifier level = true
 takes_bare c.ImportSpecifier f.ImportShorthand level = true
-takes_bare c.ExportSpecifier f.ExportSpecifier level = level == 0
-takes_bare c.ExportSpecifier f.ExportShorthand level = level == 0
-takes_bare _ form level = false
+takes_bare c.ExportSpecifier form level = is_export_specifier form && level == 0
+takes_bare category form level = takes_name category form level
 
 -- the expressions that it takes, in parentheses or not
 abbrev pub takes_expression : Category → ℕ → Shape → Bool

@@ -350,7 +350,7 @@ field_words standing.Static = or (word w.Get) (word w.Set)
 field_words standing.Instance = or (or (word w.Get) (word w.Set)) (word w.Static)
 
 abbrev pub never : Test
-never s token = false
+never s t = false
 
 abbrev pub static_name : Standing → Key → Piece
 static_name standing.Instance key.Plain = all (ahead (word w.Static) ∷ a_key c.ClassKey key.Plain ∷ hole ∷ the_statement_end e.StaticName false ∷ [])
@@ -366,10 +366,14 @@ field_pieces standing key = static_word standing
     ∷ either (either (all (a_key c.ClassKey key ∷ a_mark m.Assign ∷ expression 1 (within scope.Field fl.Plain) ∷ the_statement_end e.FieldValue false ∷ [])) (field_without standing key)) (static_name standing key)
     ∷ []
 
+-- the arguments of a `new`, whose callee is then no `new` without arguments (clause 13.3)
+abbrev pub new_arguments : Piece
+new_arguments = all (a_mark m.OpenParen ∷ commas false true (at c.Argument 1) free ∷ a_mark m.CloseParen ∷ [])
+
 -- the spellings of each form, each with its level
 abbrev pub spellings : Form → List (ℕ × List Piece)
 spellings (f.Field standing key) = (0, field_pieces standing key) ∷ []
-spellings f.New = (18, table_pieces f.New) ∷ (16, a_word w.New ∷ child (at c.Callee 18) same ∷ no_list ∷ []) ∷ []
+spellings f.New = (18, a_word w.New ∷ expression 18 same ∷ new_arguments ∷ []) ∷ (16, a_word w.New ∷ child (at c.Callee 18) same ∷ no_list ∷ []) ∷ []
 spellings f.Template = (19, template true ∷ []) ∷ (0, template false ∷ []) ∷ []
 spellings f.ArrayPattern = pattern_spellings (table_pieces f.ArrayPattern)
 spellings f.ObjectPattern = pattern_spellings (table_pieces f.ObjectPattern)

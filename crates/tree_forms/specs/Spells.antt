@@ -98,44 +98,44 @@ mutual
 
   -- they spell the pieces, behind ends of this greatest level, with these scalars and slots, the shape of
   -- the first child, and the greatest level of the ends before j
-  pub data Fills (P : Said) (s : List ℕ) (k : Context) : ℕ → List Piece → ℕ → ℕ → List Scalar → List Row → Option Shape → ℕ → Type 0 where
-    no_pieces : (m i : ℕ) → Fills P s k m [] i i [] [] None m
-    a_nothing : (m n i j : ℕ) (qs : List Piece) (more : List Scalar) (rows : List Row) (own : Option Shape)
+  pub data Fills (P : Said) (s : List ℕ) : Context → ℕ → List Piece → ℕ → ℕ → List Scalar → List Row → Option Shape → ℕ → Type 0 where
+    no_pieces : (k : Context) (m i : ℕ) → Fills P s k m [] i i [] [] None m
+    a_nothing : (k : Context) (m n i j : ℕ) (qs : List Piece) (more : List Scalar) (rows : List Row) (own : Option Shape)
         → Fills P s k m qs i j more rows own n → Fills P s k m (nothing ∷ qs) i j more rows own n
     -- what is told elsewhere
-    a_scalar : (m n i j : ℕ) (qs : List Piece) (value : Scalar) (more : List Scalar) (rows : List Row) (own : Option Shape)
+    a_scalar : (k : Context) (m n i j : ℕ) (qs : List Piece) (value : Scalar) (more : List Scalar) (rows : List Row) (own : Option Shape)
         → Fills P s k m qs i j more rows own n → Fills P s k m (given ∷ qs) i j (value ∷ more) rows own n
-    a_token : (m n i j : ℕ) (qs : List Piece) (more : List Scalar) (rows : List Row) (own : Option Shape) (test : Test) (t : Token) → scan s i Div ≡ Ok t → test s t ≡ true
+    a_token : (k : Context) (m n i j : ℕ) (qs : List Piece) (more : List Scalar) (rows : List Row) (own : Option Shape) (test : Test) (t : Token) → scan s i Div ≡ Ok t → test s t ≡ true
         → Fills P s k 0 qs t.end j more rows own n → Fills P s k m (token test ∷ qs) i j more rows own n
-    looked_ahead : (m n i j : ℕ) (qs : List Piece) (more : List Scalar) (rows : List Row) (own : Option Shape) (test : Test) (t : Token) → scan s i Div ≡ Ok t → test s t ≡ true
+    looked_ahead : (k : Context) (m n i j : ℕ) (qs : List Piece) (more : List Scalar) (rows : List Row) (own : Option Shape) (test : Test) (t : Token) → scan s i Div ≡ Ok t → test s t ≡ true
         → Fills P s k m qs i j more rows own n → Fills P s k m (ahead test ∷ qs) i j more rows own n
-    a_text : (m n i j : ℕ) (qs : List Piece) (more : List Scalar) (rows : List Row) (own : Option Shape) (lexeme : Lexeme) (t : Token) (found : List Scalar) → scan s i (goal_of lexeme) ≡ Ok t
+    a_text : (k : Context) (m n i j : ℕ) (qs : List Piece) (more : List Scalar) (rows : List Row) (own : Option Shape) (lexeme : Lexeme) (t : Token) (found : List Scalar) → scan s i (goal_of lexeme) ≡ Ok t
         → texts lexeme s t ≡ Some found → Fills P s k 19 qs t.end j more rows own n → Fills P s k m (text lexeme ∷ qs) i j (found ++ more) rows own n
-    a_child : (m n i e j : ℕ) (qs : List Piece) (more : List Scalar) (rows : List Row) (own : Option Shape) (want : Want) (way : Way) (name : Option PlaceName) (shape : Shape) (x : Syntax)
+    a_child : (k : Context) (m n i e j : ℕ) (qs : List Piece) (more : List Scalar) (rows : List Row) (own : Option Shape) (want : Want) (way : Way) (name : Option PlaceName) (shape : Shape) (x : Syntax)
         → Spells P s (way k) i e want shape x → Fills P s k (ends want shape) qs e j more rows own n → Fills P s k m (child want way ∷ qs) i j more (one name x ∷ rows) own n
-    a_first : (m n i e j : ℕ) (qs : List Piece) (more : List Scalar) (rows : List Row) (want : Want) (way : Way) (name : Option PlaceName) (shape : Shape) (x : Syntax)
+    a_first : (k : Context) (m n i e j : ℕ) (qs : List Piece) (more : List Scalar) (rows : List Row) (want : Want) (way : Way) (name : Option PlaceName) (shape : Shape) (x : Syntax)
         → Spells P s (way k) i e want shape x → Fills P s k (ends want shape) qs e j more rows None n → Fills P s k m (first want way ∷ qs) i j more (one name x ∷ rows) (Some shape) n
-    a_hole : (m n i j : ℕ) (qs : List Piece) (more : List Scalar) (rows : List Row) (own : Option Shape) (name : Option PlaceName)
+    a_hole : (k : Context) (m n i j : ℕ) (qs : List Piece) (more : List Scalar) (rows : List Row) (own : Option Shape) (name : Option PlaceName)
         → Fills P s k m qs i j more rows own n → Fills P s k m (hole ∷ qs) i j more (none name ∷ rows) own n
-    an_item : (m n i e j : ℕ) (qs : List Piece) (more : List Scalar) (xs : List Spot) (rows : List Row) (own : Option Shape) (want : Want) (way : Way) (name : Option PlaceName) (shape : Shape) (x : Syntax)
+    an_item : (k : Context) (m n i e j : ℕ) (qs : List Piece) (more : List Scalar) (xs : List Spot) (rows : List Row) (own : Option Shape) (want : Want) (way : Way) (name : Option PlaceName) (shape : Shape) (x : Syntax)
         → Spells P s (way k) i e want shape x → Fills P s k (ends want shape) qs e j more (all xs ∷ rows) own n → Fills P s k m (into want way ∷ qs) i j more (all ((name, Some x) ∷ xs) ∷ rows) own n
-    no_items : (m n i j : ℕ) (qs : List Piece) (more : List Scalar) (rows : List Row) (own : Option Shape)
+    no_items : (k : Context) (m n i j : ℕ) (qs : List Piece) (more : List Scalar) (rows : List Row) (own : Option Shape)
         → Fills P s k m qs i j more rows own n → Fills P s k m (no_list ∷ qs) i j more (all [] ∷ rows) own n
-    a_row : (m n i e j : ℕ) (qs : List Piece) (more : List Scalar) (xs : List Spot) (rows : List Row) (own : Option Shape) (semicolons : Bool) (want : Want) (way : Way)
+    a_row : (k : Context) (m n i e j : ℕ) (qs : List Piece) (more : List Scalar) (xs : List Spot) (rows : List Row) (own : Option Shape) (semicolons : Bool) (want : Want) (way : Way)
         → InRow P s (way k) semicolons want i e xs → Fills P s k 0 qs e j more rows own n → Fills P s k m (row semicolons want way ∷ qs) i j more (all xs ∷ rows) own n
-    with_commas : (m l n i e j : ℕ) (qs : List Piece) (more : List Scalar) (xs : List Spot) (rows : List Row) (own : Option Shape) (holes last : Bool) (want : Want) (way : Way)
+    with_commas : (k : Context) (m l n i e j : ℕ) (qs : List Piece) (more : List Scalar) (xs : List Spot) (rows : List Row) (own : Option Shape) (holes last : Bool) (want : Want) (way : Way)
         → Listed P s (way k) holes last want i e xs l → Fills P s k l qs e j more rows own n → Fills P s k m (commas holes last want way ∷ qs) i j more (all xs ∷ rows) own n
-    a_twin : (m n i e j : ℕ) (qs : List Piece) (more : List Scalar) (rows : List Row) (own : Option Shape) (before : Bool) (want : Want) (name other : Option PlaceName) (shape : Shape) (copy x : Syntax)
+    a_twin : (k : Context) (m n i e j : ℕ) (qs : List Piece) (more : List Scalar) (rows : List Row) (own : Option Shape) (before : Bool) (want : Want) (name other : Option PlaceName) (shape : Shape) (copy x : Syntax)
         → Spells P s (same k) i e want shape x → Copies copy x → Fills P s k 0 qs e j more rows own n → Fills P s k m (twins before want ∷ qs) i j more (twin_rows before (one name copy) (one other x) rows) own n
-    is_missing : (m n i j : ℕ) (qs : List Piece) (more : List Scalar) (rows : List Row) (own : Option Shape) (ending : Ending) (clause : Bool) (t : Token) → scan s i Div ≡ Ok t
+    is_missing : (k : Context) (m n i j : ℕ) (qs : List Piece) (more : List Scalar) (rows : List Row) (own : Option Shape) (ending : Ending) (clause : Bool) (t : Token) → scan s i Div ≡ Ok t
         → may_miss ending clause m t ≡ true → Fills P s k m qs i j more rows own n → Fills P s k m (missing ending clause ∷ qs) i j more rows own n
-    a_template : (m n i e j : ℕ) (qs : List Piece) (more : List Scalar) (rows : List Row) (own : Option Shape) (cooked : Bool) (quasis holes : List Spot) → Quasis P s k cooked Div i e quasis holes
+    a_template : (k : Context) (m n i e j : ℕ) (qs : List Piece) (more : List Scalar) (rows : List Row) (own : Option Shape) (cooked : Bool) (quasis holes : List Spot) → Quasis P s k cooked Div i e quasis holes
         → Fills P s k 0 qs e j more rows own n → Fills P s k m (template cooked ∷ qs) i j more (all quasis ∷ all holes ∷ rows) own n
-    the_one : (m n i j : ℕ) (qs : List Piece) (more : List Scalar) (rows : List Row) (own : Option Shape) (a b : Piece)
+    the_one : (k : Context) (m n i j : ℕ) (qs : List Piece) (more : List Scalar) (rows : List Row) (own : Option Shape) (a b : Piece)
         → Fills P s k m (a ∷ qs) i j more rows own n → Fills P s k m (either a b ∷ qs) i j more rows own n
-    the_other : (m n i j : ℕ) (qs : List Piece) (more : List Scalar) (rows : List Row) (own : Option Shape) (a b : Piece)
+    the_other : (k : Context) (m n i j : ℕ) (qs : List Piece) (more : List Scalar) (rows : List Row) (own : Option Shape) (a b : Piece)
         → Fills P s k m (b ∷ qs) i j more rows own n → Fills P s k m (either a b ∷ qs) i j more rows own n
-    one_and_other : (m n i j : ℕ) (qs : List Piece) (more : List Scalar) (rows : List Row) (own : Option Shape) (a b : Piece)
+    one_and_other : (k : Context) (m n i j : ℕ) (qs : List Piece) (more : List Scalar) (rows : List Row) (own : Option Shape) (a b : Piece)
         → Fills P s k m (a ∷ b ∷ qs) i j more rows own n → Fills P s k m (both a b ∷ qs) i j more rows own n
 
   -- they spell trees in a row, perhaps with semicolons between them; behind the first that is no

@@ -1,6 +1,6 @@
 //! What surrounds a place.
 
-ghost use Rattle.std.specs.Prelude.{◌≡◌};
+ghost use Rattle.std.specs.Prelude.{◌≡◌, true};
 ghost use Rattle.tree_forms.specs.Contexts as spec;
 
 use js_forms::{Flow, Scope};

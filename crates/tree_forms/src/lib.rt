@@ -5,5 +5,7 @@
 #![tactic(auto)]
 
 mod context;
+mod places;
 
 pub use context::Context;
+pub use places::{is_declaration, is_expression, is_statement, takes};
