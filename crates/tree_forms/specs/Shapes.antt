@@ -1,6 +1,6 @@
 -- What the places of a form take, by the shape of what stands there (ECMA-262, clauses 13 to 16).
 use Rattle.std.specs.Prelude.{ℕ, suc, ◌==◌, Bool, true, false, not, ◌&&◌, ◌||◌, List, [], ◌∷◌, Option, Some, None, nat_le, nat_lt, max, if◌then◌else◌, codes, bytes_eq}
-use Rattle.tree_core.specs.Syntax.{Syntax, node, Slots, no_slots, slot, Places, no_places, hole, place, Notes}
+use Rattle.tree_core.specs.Syntax.{Syntax, node, slot, Places, no_places, hole, place}
 use Rattle.tree_core.specs.declared.scalars.Scalar.{Scalar}
 use Rattle.tree_core.specs.declared.scalars.Scalar.TheVariants as scalar
 use Rattle.tree_core.specs.View.{Row}
@@ -11,19 +11,16 @@ use Rattle.js_forms.specs.declared.category.Category.{Category}
 use Rattle.js_forms.specs.declared.category.Category.TheVariants as c
 use Rattle.js_forms.specs.declared.form.Flow.{Flow}
 use Rattle.js_forms.specs.declared.form.Flow.TheVariants as fl
-use Rattle.js_forms.specs.declared.form.Access.{Access}
 use Rattle.js_forms.specs.declared.form.Access.TheVariants as a
 use Rattle.js_forms.specs.declared.form.Key.TheVariants as key
 use Rattle.js_forms.specs.declared.form.Link.TheVariants as link
 use Rattle.js_forms.specs.declared.form.Sort.TheVariants as sort
 use Rattle.js_forms.specs.declared.form.Standing.TheVariants as standing
-use Rattle.js_forms.specs.declared.form.Variable.{Variable}
 use Rattle.js_forms.specs.declared.form.Variable.TheVariants as v
 use Rattle.js_forms.specs.declared.form.Form.{Form}
 use Rattle.js_forms.specs.declared.form.Form.TheVariants as f
 use Rattle.js_forms.specs.declared.levels.Left.{Left}
 use Rattle.js_forms.specs.declared.levels.Left.TheVariants as l
-use Rattle.js_forms.specs.declared.operator.Operator.{Operator}
 use Rattle.js_forms.specs.declared.operator.Operator.TheVariants as o
 use Rattle.tree_forms.specs.declared.context.Context.{Context}
 use Rattle.tree_forms.specs.Contexts.{takes_await, takes_yield}

@@ -12,13 +12,11 @@ use Rattle.js_forms.specs.Levels.{level, right}
 use Rattle.js_forms.specs.Table.{parts, meta_spelling}
 use Rattle.js_forms.specs.declared.category.Category.{Category}
 use Rattle.js_forms.specs.declared.category.Category.TheVariants as c
-use Rattle.js_forms.specs.declared.form.Flow.{Flow}
 use Rattle.js_forms.specs.declared.form.Flow.TheVariants as fl
 use Rattle.js_forms.specs.declared.form.Access.{Access}
 use Rattle.js_forms.specs.declared.form.Access.TheVariants as a
 use Rattle.js_forms.specs.declared.form.Key.{Key}
 use Rattle.js_forms.specs.declared.form.Key.TheVariants as key
-use Rattle.js_forms.specs.declared.form.Sort.{Sort}
 use Rattle.js_forms.specs.declared.form.Sort.TheVariants as sort
 use Rattle.js_forms.specs.declared.form.Standing.{Standing}
 use Rattle.js_forms.specs.declared.form.Standing.TheVariants as standing

@@ -1,7 +1,7 @@
 -- A text spells a tree: where its nodes stand and what stands between them, by the pieces of each
 -- form. Offsets count bytes. `P` is what is said of each node and the stretch on which it stands.
 -- Comments are left aside.
-use Rattle.std.specs.Prelude.{◌≡◌, ◌≤◌, ◌+◌, ◌-◌, ℕ, Bool, true, false, not, ◌&&◌, ◌||◌, List, [], ◌∷◌, ◌++◌, Option, Some, None, length, slice_range, slice_get, Result, Ok, Err}
+use Rattle.std.specs.Prelude.{◌≡◌, ◌+◌, ◌-◌, ℕ, Bool, true, false, not, ◌&&◌, ◌||◌, List, [], ◌∷◌, ◌++◌, Option, Some, None, length, slice_range, slice_get, Ok}
 use Rattle.std.specs.List.{Contains}
 use Rattle.tree_core.specs.declared.scalars.Scalar.{Scalar}
 use Rattle.tree_core.specs.declared.scalars.Scalar.TheVariants as scalar
@@ -18,7 +18,6 @@ use Rattle.js_tokens.specs.declared.token.Token.{Token}
 use Rattle.js_lexer.specs.Cursors.{is_mark}
 use Rattle.js_lexer.specs.Scan.{gap_at, scan}
 use Rattle.asi_rules.specs.Semicolons.{closes, would_join}
-use Rattle.asi_rules.specs.declared.rules.EndLevels.{EndLevels}
 use Rattle.asi_rules.specs.declared.rules.Ending.{Ending}
 use Rattle.js_forms.specs.Fixed.{scalars}
 use Rattle.js_forms.specs.Forms.{kind_of}
@@ -27,7 +26,7 @@ use Rattle.js_forms.specs.declared.form.Form.{Form}
 use Rattle.js_forms.specs.declared.form.Form.TheVariants as f
 use Rattle.tree_forms.specs.declared.context.Context.{Context}
 use Rattle.tree_forms.specs.Contexts.{outermost, same, free, with_directives}
-use Rattle.tree_forms.specs.Tokens.{Test, Lexeme, mark, goal_of, texts, is_part, cooks}
+use Rattle.tree_forms.specs.Tokens.{Test, Lexeme, goal_of, texts, is_part, cooks}
 use Rattle.tree_forms.specs.Pieces.{Shape, Want, at, Way, Piece, nothing, given, token, ahead, text, child, first, hole, into, no_list, row, commas, twins, missing, template, either, both}
 use Rattle.tree_forms.specs.Shapes.{takes, ends, shape_of, in_parentheses, stands, lawful, is_rest, is_directive}
 use Rattle.tree_forms.specs.Spellings.{spellings}

@@ -9,7 +9,6 @@ use Rattle.js_tokens.specs.declared.punctuator.Punctuator.{Punctuator}
 use Rattle.js_tokens.specs.declared.punctuator.Punctuator.TheVariants as m
 use Rattle.js_tokens.specs.declared.token.Goal.{Goal}
 use Rattle.js_tokens.specs.declared.token.Goal.TheVariants as goal
-use Rattle.js_tokens.specs.declared.token.TemplatePart.{TemplatePart}
 use Rattle.js_tokens.specs.declared.token.TemplatePart.TheVariants as part
 use Rattle.js_tokens.specs.declared.token.Token.{Token}
 use Rattle.js_tokens.specs.declared.token.TokenKind.{TokenKind}
