@@ -8,4 +8,4 @@ mod context;
 mod places;
 
 pub use context::Context;
-pub use places::{is_declaration, is_expression, is_statement, takes};
+pub use places::{is_declaration, is_statement, takes};

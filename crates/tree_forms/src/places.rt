@@ -8,45 +8,6 @@ ghost use Rattle.tree_forms.specs.Shapes as spec;
 
 use js_forms::{Category, Flow, Form, Sort, Variable};
 
-/// Whether it is the form of an expression.
-pub fn is_expression(form: Form) -> bool
-    ensures { result ≡ spec.is_expression form }
-{
-    match form {
-        Form::Name
-        | Form::Literal(_)
-        | Form::This
-        | Form::Array
-        | Form::Object
-        | Form::Function(_)
-        | Form::Arrow(_)
-        | Form::Class
-        | Form::Template
-        | Form::Tagged
-        | Form::Dot(_)
-        | Form::Index(_)
-        | Form::Call(_)
-        | Form::New
-        | Form::ImportCall
-        | Form::Chain
-        | Form::NewTarget
-        | Form::ImportMeta
-        | Form::Prefix(_)
-        | Form::Postfix(_)
-        | Form::Unary(_)
-        | Form::Await
-        | Form::Yield
-        | Form::YieldValue
-        | Form::YieldStar
-        | Form::Binary(_)
-        | Form::Logical(_)
-        | Form::Conditional
-        | Form::Assignment(_)
-        | Form::Sequence => true,
-        _ => false,
-    }
-}
-
 /// Whether it is the form of a statement that may be the body of another.
 pub fn is_statement(form: Form) -> bool
     ensures { result ≡ spec.is_statement form }
