@@ -1,0 +1,276 @@
+//! What the places of a form take, by the forms that stand there.
+//!
+//! A spelling tells apart what one form may be: a pattern that declares (0) or assigns (1), a
+//! template with any escapes (0), a declaration of a function or a class that lacks its name (1).
+
+ghost use Rattle.std.specs.Prelude.{◌≡◌};
+ghost use Rattle.tree_forms.specs.Shapes as spec;
+
+use js_forms::{Category, Flow, Form, Sort, Variable};
+
+/// Whether it is the form of a statement that may be the body of another.
+pub fn is_statement(form: Form) -> bool
+    ensures { result ≡ spec.is_statement form }
+{
+    match form {
+        Form::ExpressionStatement
+        | Form::Block
+        | Form::Empty
+        | Form::Debugger
+        | Form::With
+        | Form::Return
+        | Form::Labeled
+        | Form::Break
+        | Form::Continue
+        | Form::If
+        | Form::Switch
+        | Form::Throw
+        | Form::Try
+        | Form::While
+        | Form::DoWhile
+        | Form::For
+        | Form::ForIn
+        | Form::ForOf
+        | Form::ForAwait => true,
+        Form::Variables(variable) => match variable {
+            Variable::Var => true,
+            _ => false,
+        },
+        _ => false,
+    }
+}
+
+/// Whether it is the form of a declaration in this spelling.
+pub fn is_declaration(form: Form, spelling: u8) -> bool
+    ensures { result ≡ spec.is_declaration form spelling }
+{
+    match form {
+        Form::Variables(_) => true,
+        Form::FunctionDeclaration(_) | Form::ClassDeclaration => spelling == 0,
+        _ => false,
+    }
+}
+
+fn is_directive(form: Form) -> bool
+    ensures { result ≡ spec.is_directive form }
+{
+    match form {
+        Form::Directive => true,
+        _ => false,
+    }
+}
+
+fn is_item(form: Form, spelling: u8) -> bool
+    ensures { result ≡ spec.is_item form spelling }
+{
+    is_statement(form) || is_declaration(form, spelling) || is_directive(form)
+}
+
+fn is_module_form(form: Form) -> bool
+    ensures { result ≡ spec.is_module_form form }
+{
+    match form {
+        Form::Import
+        | Form::ExportDeclaration
+        | Form::ExportNames
+        | Form::ExportDefault
+        | Form::ExportDefaultDeclaration
+        | Form::ExportAll => true,
+        _ => false,
+    }
+}
+
+fn is_name(form: Form) -> bool
+    ensures { result ≡ spec.is_name_form form }
+{
+    match form {
+        Form::Name => true,
+        _ => false,
+    }
+}
+
+fn is_any_name(form: Form) -> bool
+    ensures { result ≡ spec.is_any_name form }
+{
+    match form {
+        Form::AnyName => true,
+        _ => false,
+    }
+}
+
+fn is_private(form: Form) -> bool
+    ensures { result ≡ spec.is_private form }
+{
+    match form {
+        Form::PrivateName => true,
+        _ => false,
+    }
+}
+
+fn is_string(form: Form) -> bool
+    ensures { result ≡ spec.is_string form }
+{
+    match form {
+        Form::Literal(sort) => match sort {
+            Sort::Quoted => true,
+            _ => false,
+        },
+        _ => false,
+    }
+}
+
+fn is_key(form: Form) -> bool
+    ensures { result ≡ spec.is_key form }
+{
+    match form {
+        Form::AnyName => true,
+        Form::Literal(sort) => match sort {
+            Sort::Quoted | Sort::Number | Sort::BigInt => true,
+            _ => false,
+        },
+        _ => false,
+    }
+}
+
+fn is_pattern(form: Form, spelling: u8) -> bool
+    ensures { result ≡ spec.is_pattern 0 form spelling }
+{
+    match form {
+        Form::ArrayPattern | Form::ObjectPattern => spelling == 0,
+        _ => false,
+    }
+}
+
+fn is_default(form: Form, spelling: u8) -> bool
+    ensures { result ≡ spec.is_default 0 form spelling }
+{
+    match form {
+        Form::Default => spelling == 0,
+        _ => false,
+    }
+}
+
+fn is_rest(form: Form, spelling: u8) -> bool
+    ensures { result ≡ spec.is_rest_of 0 form spelling }
+{
+    match form {
+        Form::Rest => spelling == 0,
+        _ => false,
+    }
+}
+
+fn is_pattern_property(form: Form, spelling: u8) -> bool
+    ensures { result ≡ spec.is_property_of 0 form spelling }
+{
+    match form {
+        Form::PatternProperty(_) | Form::NameRest => spelling == 0,
+        Form::PatternShorthand => true,
+        _ => false,
+    }
+}
+
+fn is_object_item(form: Form) -> bool
+    ensures { result ≡ spec.is_object_item form }
+{
+    match form {
+        Form::Property(_)
+        | Form::ShorthandProperty
+        | Form::PropertyMethod(_, _, _)
+        | Form::Spread => true,
+        _ => false,
+    }
+}
+
+fn is_class_item(form: Form) -> bool
+    ensures { result ≡ spec.is_class_item form }
+{
+    match form {
+        Form::Method(_, _, _, _) | Form::Field(_, _) | Form::StaticBlock => true,
+        _ => false,
+    }
+}
+
+fn same_flow(one: Flow, other: Flow) -> bool
+    ensures { result ≡ spec.same_flow one other }
+{
+    match (one, other) {
+        (Flow::Plain, Flow::Plain) => true,
+        (Flow::Async, Flow::Async) => true,
+        (Flow::Generator, Flow::Generator) => true,
+        (Flow::AsyncGenerator, Flow::AsyncGenerator) => true,
+        _ => false,
+    }
+}
+
+fn is_method_value(flow: Flow, form: Form) -> bool
+    ensures { result ≡ spec.is_method_value flow form }
+{
+    match form {
+        Form::MethodValue(other) => same_flow(flow, other),
+        _ => false,
+    }
+}
+
+/// Whether a place of the category takes the form, in this spelling and in no parentheses. The
+/// expressions that a place takes by their level are left aside.
+pub fn takes(category: Category, form: Form, spelling: u8) -> bool
+    ensures { result ≡ spec.takes_bare category form spelling }
+{
+    match category {
+        Category::Item => is_item(form, spelling),
+        Category::ModuleItem => is_item(form, spelling) || is_module_form(form),
+        Category::Statement => is_statement(form),
+        Category::Declaration => is_declaration(form, spelling),
+        Category::Block => matches!(form, Form::Block),
+        Category::FunctionBody => matches!(form, Form::FunctionBody),
+        Category::ClassBody => matches!(form, Form::ClassBody),
+        Category::ClassItem => is_class_item(form),
+        Category::Case => matches!(form, Form::Case | Form::DefaultCase),
+        Category::Catch => matches!(form, Form::Catch),
+        Category::ObjectItem => is_object_item(form),
+        Category::Argument | Category::Element => matches!(form, Form::Spread),
+        Category::Callee => matches!(form, Form::New),
+        Category::Template => match form {
+            Form::Template => spelling == 0,
+            _ => false,
+        },
+        Category::Method(flow) => is_method_value(flow, form),
+        Category::Getter => matches!(form, Form::GetterValue),
+        Category::Setter => matches!(form, Form::SetterValue),
+        Category::ImportSpecifier => {
+            matches!(form, Form::ImportSpecifier | Form::ImportShorthand)
+        }
+        Category::ExportSpecifier => match form {
+            Form::ExportSpecifier | Form::ExportShorthand => spelling == 0,
+            _ => false,
+        },
+        Category::Expression | Category::Cover | Category::Target => false,
+        _ => takes_name(category, form, spelling),
+    }
+}
+
+// The same of a place for a name, a key or a pattern that declares.
+fn takes_name(category: Category, form: Form, spelling: u8) -> bool
+    ensures { result ≡ spec.takes_name category form spelling }
+{
+    match category {
+        Category::Binding => is_name(form) || is_pattern(form, spelling),
+        Category::BindingValue => {
+            is_name(form) || is_pattern(form, spelling) || is_default(form, spelling)
+        }
+        Category::BindingElement => {
+            is_name(form)
+                || is_pattern(form, spelling)
+                || is_default(form, spelling)
+                || is_rest(form, spelling)
+        }
+        Category::BindingProperty => is_pattern_property(form, spelling),
+        Category::Name => is_name(form),
+        Category::AnyName | Category::SuperMember => is_any_name(form),
+        Category::Member => is_any_name(form) || is_private(form),
+        Category::ObjectKey => is_key(form),
+        Category::ClassKey => is_key(form) || is_private(form),
+        Category::Source => is_string(form),
+        _ => false,
+    }
+}
