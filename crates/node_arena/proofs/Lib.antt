@@ -1,6 +1,7 @@
 pub mod Births
 pub mod Edits
 pub mod Endings
+pub mod Fronts
 pub mod Gaps
 pub mod Leaving
 pub mod Linking

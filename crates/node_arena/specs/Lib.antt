@@ -1,4 +1,5 @@
 pub mod Forest
+pub mod Fronts
 pub mod Lists
 pub mod Payload
 pub mod Reads

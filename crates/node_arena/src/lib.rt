@@ -7,14 +7,19 @@
 
 mod arena;
 mod chains;
+mod cloning;
+mod copies;
 mod forest;
 mod ids;
 mod links;
 mod payload;
 mod state;
 mod steps;
+mod walks;
 
 pub use arena::{Arena, MOST_NODES, MOST_PLACES};
+pub use copies::Copies;
 pub use ids::{NodeId, PlaceId};
 pub use state::{ArenaFault, PlaceState};
 pub use steps::Steps;
+pub use walks::Size;

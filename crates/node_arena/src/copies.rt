@@ -1,0 +1,406 @@
+//! Copies of nodes with all that they hold, as new rows behind the others. After a refusal the rows
+//! that were made are taken away again.
+
+ghost use Rattle.std.specs.Prelude.{◌≡◌, ◌≢◌, ◌<◌, ◌≤◌, ◌*◌, ℕ, None, Some, Err, All, length, IfOk, IfSome, OnOk, OnErr};
+ghost use Rattle.node_arena.specs.Forest.{IsListSlot, IsRoot};
+ghost use Rattle.node_arena.specs.Fronts.{Grows, IsFront, IsLastIn, IsNewRoot, IsRootBehind, MayGoBefore, front};
+ghost use Rattle.node_arena.specs.Reads.{base_at};
+ghost use Rattle.node_arena.specs.Store.{copied_in, reserved};
+
+use crate::arena::{Arena, MOST_NODES, MOST_PLACES, singles};
+use crate::ids::{NodeId, PlaceId};
+use crate::state::ArenaFault;
+use crate::steps::Steps;
+use crate::walks::MOST_SLOTS;
+use sqlite_items::Items;
+use std::marker::Brand;
+use std::sync::ledger::{Blank, Ledger};
+use type_defs::{is_list, scalar_count};
+
+/// New roots, in order.
+pub type Copies = Items<NodeId>;
+
+/// How many rows of each sort there were, and for how many more there was memory.
+#[derive(Clone, Copy)]
+pub struct Mark {
+    pub nodes: usize,
+    pub slots: usize,
+    pub scalars: usize,
+    pub places: usize,
+    pub spare: u32,
+}
+
+impl Arena {
+    fn mark(&self) -> Mark
+        ensures front { front result self.now ≡ self.now }
+        ensures whole { IsFront result self.now }
+        ensures spare { result.spare ≡ self.now.spare }
+    {
+        self.forest.laws();
+        Mark {
+            nodes: self.forest.nodes(),
+            slots: self.forest.slots(),
+            scalars: self.payload.scalars(),
+            places: self.forest.places(),
+            spare: self.forest.spare(),
+        }
+    }
+
+    /// Takes away all rows behind a mark.
+    fn back_to(&mut self, mark: Mark)
+        requires front { IsFront mark (front mark self.old) }
+        requires spare { mark.spare ≤ self.old.spare }
+        ensures { self.new ≡ front mark self.old }
+    {
+        self.forest
+            .cut(mark.nodes, mark.slots, mark.places, mark.spare);
+        self.payload.cut(mark.nodes, mark.scalars, mark.places);
+    }
+
+    /// A copy of a node without what it holds, a root. The memory that the mark tells is left.
+    fn copy_row(&mut self, node: NodeId, mark: Mark) -> Result<NodeId, ArenaFault>
+        requires at { node < length self.old.forest.nodes }
+        requires spare { mark.spare ≤ self.old.spare }
+        ensures number { IfOk result (λ j. j ≡ length self.old.forest.nodes) }
+        ensures ok { OnOk result (self.new ≡ copied_in self.old node) }
+        ensures err { OnErr result (self.new ≡ self.old) }
+        ensures apart { IfOk result (λ j. MayGoBefore self.new.forest (length self.old.forest.places) j) }
+        ensures spare { mark.spare ≤ self.new.spare }
+    {
+        let kind = self.forest.kind(node.number());
+        let places = singles(kind);
+        if self.forest.nodes() >= MOST_NODES {
+            return Err(ArenaFault::Full);
+        }
+        if self.forest.places() + places > MOST_PLACES {
+            return Err(ArenaFault::Full);
+        }
+        if self.forest.spare() <= mark.spare {
+            return Err(ArenaFault::NoMemory);
+        }
+        match self
+            .payload
+            .copy_node(node.number(), scalar_count(kind), places)
+        {
+            Ok(()) => {}
+            Err(_) => return Err(ArenaFault::NoMemory),
+        }
+        self.forest.laws();
+        let copy = self.forest.make(kind);
+        self.forest.laws();
+        Ok(NodeId::numbered(copy))
+    }
+
+    /// Gives a new place the name of another.
+    fn copy_name(&mut self, from: PlaceId, to: PlaceId, mark: Mark)
+        requires from { from < length self.old.forest.places }
+        requires to { to < length self.old.forest.places }
+        ensures forest { self.new.forest ≡ self.old.forest }
+        ensures front { front mark self.new ≡ front mark self.old }
+        ensures spare { self.new.spare ≡ self.old.spare }
+    {
+        if to.number() as usize >= mark.places {
+            if let Some(name) = self.name_of(from) {
+                self.set_name(to, name);
+            }
+        }
+    }
+
+    /// A new place at the end of a new node's list.
+    fn push_place<L: Ledger>(
+        &mut self,
+        list: u32,
+        last: Option<PlaceId>,
+        mark: Mark,
+        steps: &mut Steps<L>,
+    ) -> Result<PlaceId, ArenaFault>
+        requires list { IsListSlot self.old.forest list }
+        requires new { mark.slots ≤ list }
+        requires last { IsLastIn self.old.forest list last }
+        requires front { IsFront mark (front mark self.old) }
+        requires spare { mark.spare ≤ self.old.spare }
+        ensures front { front mark self.new ≡ front mark self.old }
+        ensures nodes { self.new.forest.nodes ≡ self.old.forest.nodes }
+        ensures places { length self.old.forest.places ≤ length self.new.forest.places }
+        ensures within { IfOk result (λ p. p < length self.new.forest.places) }
+        ensures list { IsListSlot self.new.forest list }
+        ensures last { IfOk result (λ p. IsLastIn self.new.forest list (Some p)) }
+        ensures spare { mark.spare ≤ self.new.spare }
+    {
+        if self.forest.places() >= MOST_PLACES {
+            return Err(ArenaFault::Full);
+        }
+        if self.forest.spare() <= mark.spare {
+            return Err(ArenaFault::NoMemory);
+        }
+        let new = match last {
+            None => self.forest.insert_first(list, None, steps),
+            Some(last) => self.forest.insert_after(list, last.number(), None, steps),
+        };
+        self.payload.push_place();
+        Ok(PlaceId::numbered(new))
+    }
+
+    /// Gives a new node's list as many places as a list of another has, with their names.
+    fn copy_list<L: Ledger>(
+        &mut self,
+        first: Option<PlaceId>,
+        list: u32,
+        mark: Mark,
+        steps: &mut Steps<L>,
+    ) -> Result<(), ArenaFault>
+        requires first { IfSome first (λ p. p < length self.old.forest.places) }
+        requires list { IsListSlot self.old.forest list }
+        requires new { mark.slots ≤ list }
+        requires front { IsFront mark (front mark self.old) }
+        requires spare { mark.spare ≤ self.old.spare }
+        ensures front { front mark self.new ≡ front mark self.old }
+        ensures nodes { self.new.forest.nodes ≡ self.old.forest.nodes }
+        ensures places { length self.old.forest.places ≤ length self.new.forest.places }
+        ensures spare { mark.spare ≤ self.new.spare }
+    {
+        let mut from = first;
+        let mut last = None;
+        for _turn in 0..self.places() {
+            let Some(place) = from else {
+                return Ok(());
+            };
+            let new = self.push_place(list, last, mark, steps)?;
+            self.copy_name(place, new, mark);
+            last = Some(new);
+            from = self.next(place);
+        }
+        Ok(())
+    }
+
+    /// Gives a new node as many places as another has, with their names.
+    fn copy_places<L: Ledger>(
+        &mut self,
+        node: NodeId,
+        copy: NodeId,
+        mark: Mark,
+        steps: &mut Steps<L>,
+    ) -> Result<(), ArenaFault>
+        requires node { node < length self.old.forest.nodes }
+        requires copy { copy < length self.old.forest.nodes }
+        requires new { mark.slots ≤ base_at self.old.forest copy }
+        requires front { IsFront mark (front mark self.old) }
+        requires spare { mark.spare ≤ self.old.spare }
+        ensures front { front mark self.new ≡ front mark self.old }
+        ensures nodes { self.new.forest.nodes ≡ self.old.forest.nodes }
+        ensures places { length self.old.forest.places ≤ length self.new.forest.places }
+        ensures spare { mark.spare ≤ self.new.spare }
+    {
+        let kind = self.kind(copy);
+        for slot in 0..MOST_SLOTS {
+            let first = self.slot_first(node, slot);
+            if is_list(kind, slot) {
+                let list = self.forest.list_slot(copy.number(), slot);
+                self.copy_list(first, list, mark, steps)?;
+            } else if let (Some(from), Some(to)) = (first, self.slot_first(copy, slot)) {
+                self.copy_name(from, to, mark);
+            }
+        }
+        Ok(())
+    }
+
+    /// A copy of a node with its places, which are empty, and put into a new place.
+    fn copy_into<L: Ledger>(
+        &mut self,
+        node: NodeId,
+        to: Option<PlaceId>,
+        mark: Mark,
+        steps: &mut Steps<L>,
+    ) -> Result<NodeId, ArenaFault>
+        requires node { node < length self.old.forest.nodes }
+        requires to { IfSome to (λ p. p < length self.old.forest.places) }
+        requires front { IsFront mark (front mark self.old) }
+        requires spare { mark.spare ≤ self.old.spare }
+        ensures number { IfOk result (λ j. j ≡ length self.old.forest.nodes) }
+        ensures grown { IfOk result (λ j. j < length self.new.forest.nodes) }
+        ensures front { front mark self.new ≡ front mark self.old }
+        ensures places { length self.old.forest.places ≤ length self.new.forest.places }
+        ensures spare { mark.spare ≤ self.new.spare }
+        ensures roots { (j : ℕ) → j < length self.old.forest.nodes → IsRoot self.old.forest j → IsRoot self.new.forest j }
+        ensures root { to ≡ None → IfOk result (λ j. IsRoot self.new.forest j) }
+    {
+        let copy = self.copy_row(node, mark)?;
+        if let Some(to) = to {
+            if (to.number() as usize) < mark.places || self.node_at(to).is_some() {
+                return Err(ArenaFault::NoMemory);
+            }
+            self.put(to, copy, steps);
+        }
+        self.copy_places(node, copy, mark, steps)?;
+        Ok(copy)
+    }
+
+    /// A copy of a node with all that it holds, as new rows.
+    fn copy_below<L: Ledger>(
+        &mut self,
+        node: NodeId,
+        mark: Mark,
+        steps: &mut Steps<L>,
+    ) -> Result<NodeId, ArenaFault>
+        requires node { node < length self.old.forest.nodes }
+        requires front { IsFront mark (front mark self.old) }
+        requires spare { mark.spare ≤ self.old.spare }
+        ensures number { IfOk result (λ j. j ≡ length self.old.forest.nodes) }
+        ensures grown { IfOk result (λ j. j < length self.new.forest.nodes) }
+        ensures front { front mark self.new ≡ front mark self.old }
+        ensures spare { mark.spare ≤ self.new.spare }
+        ensures roots { (j : ℕ) → j < length self.old.forest.nodes → IsRoot self.old.forest j → IsRoot self.new.forest j }
+        ensures root { IfOk result (λ j. IsRoot self.new.forest j) }
+    {
+        let copy = self.copy_into(node, None, mark, steps)?;
+        let mut from = self.first_place(node, 0);
+        let mut to = self.first_place(copy, 0);
+        for _turn in 0..self.places() {
+            let (Some(place), Some(new)) = (from, to) else {
+                return Ok(copy);
+            };
+            if let Some(child) = self.node_at(place) {
+                self.copy_into(child, Some(new), mark, steps)?;
+            }
+            from = self.place_below(place, node);
+            to = self.place_below(new, copy);
+        }
+        Ok(copy)
+    }
+
+    /// Copies of nodes with all that they hold, in order.
+    fn copy_each<L: Ledger>(
+        &mut self,
+        nodes: &[NodeId],
+        mark: Mark,
+        blank: Blank,
+    ) -> Result<Copies, ArenaFault>
+        requires name { blank.name ≡ L.name }
+        requires parts { blank.parts ≡ L.parts }
+        requires some { 0 < blank.parts }
+        requires nodes { All (λ j. j < length self.old.forest.nodes) nodes.now }
+        requires front { IsFront mark (front mark self.old) }
+        requires spare { mark.spare ≤ self.old.spare }
+        ensures front { front mark self.new ≡ front mark self.old }
+        ensures spare { mark.spare ≤ self.new.spare }
+        ensures roots { IfOk result (λ copies. All (λ j. IsRootBehind mark self.new.forest j) copies) }
+        ensures count { IfOk result (λ copies. length copies ≡ length nodes.now) }
+    {
+        let mut steps = Steps::<L>::new(blank);
+        let mut copies = Items::new(self.payload.alloc());
+        for node in nodes.iter().copied() {
+            let copy = self.copy_below(node, mark, &mut steps)?;
+            match copies.push(copy) {
+                Ok(()) => {}
+                Err(_) => return Err(ArenaFault::NoMemory),
+            }
+        }
+        Ok(copies)
+    }
+
+    /// For how many new nodes and places in lists copies of these nodes take memory.
+    fn room_for(&self, nodes: &[NodeId]) -> Result<u32, ArenaFault>
+        requires nodes { All (λ j. j < length self.now.forest.nodes) nodes.now }
+        ensures { OnErr result (result ≡ Err ArenaFault.Full) }
+    {
+        let mut most_nodes = self.forest.nodes();
+        let mut most_places = self.forest.places();
+        let mut room = 0;
+        for node in nodes.iter().copied() {
+            let size = self.size(node);
+            most_nodes += size.nodes as usize;
+            most_places += size.places as usize;
+            if most_nodes > MOST_NODES || most_places > MOST_PLACES {
+                return Err(ArenaFault::Full);
+            }
+            room += size.nodes + size.listed;
+        }
+        Ok(room)
+    }
+
+    /// Takes memory for copies of these nodes beside what is promised.
+    fn reserve_for(&mut self, nodes: &[NodeId]) -> Result<(), ArenaFault>
+        requires nodes { All (λ j. j < length self.old.forest.nodes) nodes.now }
+        ensures ok { OnOk result (self.new ≡ reserved self.old self.new.spare) }
+        ensures spare { self.old.spare ≤ self.new.spare }
+        ensures err { OnErr result (self.new ≡ self.old) }
+        ensures listed { result ≢ Err ArenaFault.NotInList }
+    {
+        let room = self.room_for(nodes)?;
+        self.reserve(self.spare().saturating_add(room))
+    }
+
+    /// Copies of nodes with all that they hold, as new roots in order, all or none. Their numbers
+    /// follow those that were there, in preorder; places of a node follow each other, single ones
+    /// first. A copy keeps the numbers of the source and the names of places.
+    pub fn copy_all(&mut self, nodes: &[NodeId]) -> Result<Copies, ArenaFault>
+        requires nodes { All (λ j. j < length self.old.forest.nodes) nodes.now }
+        ensures ok { OnOk result (Grows self.old self.new) }
+        ensures roots { IfOk result (λ copies. All (λ j. IsNewRoot self.new.forest (length self.old.forest.nodes) (length self.old.forest.places) j) copies) }
+        ensures count { IfOk result (λ copies. length copies ≡ length nodes.now) }
+        ensures err { OnErr result (self.new ≡ self.old) }
+        ensures listed { result ≢ Err ArenaFault.NotInList }
+        ensures spare { self.old.spare ≤ self.new.spare }
+    {
+        let mark = self.mark();
+        self.reserve_for(nodes)?;
+        match self.copy_each::<Brand>(nodes, mark, Blank::new(1)) {
+            Ok(copies) => {
+                self.forest.laws();
+                Ok(copies)
+            }
+            Err(_) => {
+                self.back_to(mark);
+                Err(ArenaFault::NoMemory)
+            }
+        }
+    }
+
+    /// A copy of one node, with a count of its own.
+    fn copy_one<L: Ledger>(
+        &mut self,
+        node: NodeId,
+        mark: Mark,
+        blank: Blank,
+    ) -> Result<NodeId, ArenaFault>
+        requires name { blank.name ≡ L.name }
+        requires parts { blank.parts ≡ L.parts }
+        requires some { 0 < blank.parts }
+        requires node { node < length self.old.forest.nodes }
+        requires front { IsFront mark (front mark self.old) }
+        requires spare { mark.spare ≤ self.old.spare }
+        ensures front { front mark self.new ≡ front mark self.old }
+        ensures spare { mark.spare ≤ self.new.spare }
+        ensures number { IfOk result (λ j. j ≡ length self.old.forest.nodes) }
+        ensures grown { IfOk result (λ j. j < length self.new.forest.nodes) }
+        ensures root { IfOk result (λ j. IsRoot self.new.forest j) }
+    {
+        let mut steps = Steps::<L>::new(blank);
+        self.copy_below(node, mark, &mut steps)
+    }
+
+    /// A copy of a node with all that it holds, as a new root. The numbers of its nodes and places
+    /// are those of `copy_all`.
+    pub fn copy(&mut self, node: NodeId) -> Result<NodeId, ArenaFault>
+        requires at { node < length self.old.forest.nodes }
+        ensures number { IfOk result (λ j. j ≡ length self.old.forest.nodes) }
+        ensures ok { OnOk result (Grows self.old self.new) }
+        ensures root { IfOk result (λ j. IsNewRoot self.new.forest (length self.old.forest.nodes) (length self.old.forest.places) j) }
+        ensures err { OnErr result (self.new ≡ self.old) }
+        ensures listed { result ≢ Err ArenaFault.NotInList }
+        ensures spare { self.old.spare ≤ self.new.spare }
+    {
+        let mark = self.mark();
+        self.reserve_for(&[node])?;
+        match self.copy_one::<Brand>(node, mark, Blank::new(1)) {
+            Ok(copy) => {
+                self.forest.laws();
+                Ok(copy)
+            }
+            Err(_) => {
+                self.back_to(mark);
+                Err(ArenaFault::NoMemory)
+            }
+        }
+    }
+}
