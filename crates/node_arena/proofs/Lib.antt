@@ -1,4 +1,6 @@
+pub mod Behind
 pub mod Births
+pub mod Climbing
 pub mod Edits
 pub mod Endings
 pub mod Fronts

@@ -16,13 +16,17 @@ front m A = record {
   spare = m.spare;
 }
 
+-- no node has more than four slots
+abbrev pub HasFewSlots : Forest → Type 0
+HasFewSlots F = length F.slots ≤ 4 * length F.nodes
+
 -- an arena with just the rows before the mark
 pub record IsFront (m : Mark) (A : Store) : Type 0 where
   pub nodes : length A.forest.nodes ≡ m.nodes
   pub slots : length A.forest.slots ≡ m.slots
   pub places : length A.forest.places ≡ m.places
   pub lawful : IsLawful A.forest
-  pub few_slots : m.slots ≤ 4 * m.nodes
+  pub few_slots : HasFewSlots A.forest
   pub facts : length A.facts ≡ m.nodes
   pub names : length A.names ≡ m.places
   pub long : length A.scalars ≡ m.scalars

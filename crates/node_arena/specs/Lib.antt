@@ -1,3 +1,4 @@
+pub mod Climbs
 pub mod Forest
 pub mod Fronts
 pub mod Lists

@@ -9,9 +9,9 @@ ghost use Rattle.node_arena.specs.Store.{copied_in, reserved};
 
 use crate::arena::{Arena, MOST_NODES, MOST_PLACES, singles};
 use crate::ids::{NodeId, PlaceId};
+use crate::preorder::MOST_SLOTS;
 use crate::state::ArenaFault;
 use crate::steps::Steps;
-use crate::walks::MOST_SLOTS;
 use sqlite_items::Items;
 use std::marker::Brand;
 use std::sync::ledger::{Blank, Ledger};
@@ -31,6 +31,7 @@ pub struct Mark {
 }
 
 impl Arena {
+    #[tactic(auto, using(crate::proofs::Behind::front_all, crate::proofs::Behind::front_is))]
     fn mark(&self) -> Mark
         ensures front { front result self.now ≡ self.now }
         ensures whole { IsFront result self.now }
@@ -47,6 +48,7 @@ impl Arena {
     }
 
     /// Takes away all rows behind a mark.
+    #[tactic(auto, using(crate::proofs::Behind::store_front))]
     fn back_to(&mut self, mark: Mark)
         requires front { IsFront mark (front mark self.old) }
         requires spare { mark.spare ≤ self.old.spare }
@@ -58,6 +60,7 @@ impl Arena {
     }
 
     /// A copy of a node without what it holds, a root. The memory that the mark tells is left.
+    #[tactic(auto, using(crate::proofs::Stores::store_copied, crate::proofs::Stores::scalars_within, crate::proofs::Stores::few_scalars, crate::proofs::Fronts::made_goes))]
     fn copy_row(&mut self, node: NodeId, mark: Mark) -> Result<NodeId, ArenaFault>
         requires at { node < length self.old.forest.nodes }
         requires spare { mark.spare ≤ self.old.spare }
@@ -92,6 +95,7 @@ impl Arena {
     }
 
     /// Gives a new place the name of another.
+    #[tactic(auto, using(crate::proofs::Behind::front_name))]
     fn copy_name(&mut self, from: PlaceId, to: PlaceId, mark: Mark)
         requires from { from < length self.old.forest.places }
         requires to { to < length self.old.forest.places }
@@ -107,6 +111,7 @@ impl Arena {
     }
 
     /// A new place at the end of a new node's list.
+    #[tactic(auto, using(crate::proofs::Behind::front_first, crate::proofs::Behind::front_after))]
     fn push_place<L: Ledger>(
         &mut self,
         list: u32,
@@ -142,6 +147,7 @@ impl Arena {
     }
 
     /// Gives a new node's list as many places as a list of another has, with their names.
+    #[tactic(auto, using(crate::proofs::Behind::front_kept))]
     fn copy_list<L: Ledger>(
         &mut self,
         first: Option<PlaceId>,
@@ -174,6 +180,7 @@ impl Arena {
     }
 
     /// Gives a new node as many places as another has, with their names.
+    #[tactic(auto, using(crate::proofs::Behind::front_kept))]
     fn copy_places<L: Ledger>(
         &mut self,
         node: NodeId,
@@ -205,6 +212,7 @@ impl Arena {
     }
 
     /// A copy of a node with its places, which are empty, and put into a new place.
+    #[tactic(auto, using(crate::proofs::Behind::front_kept, crate::proofs::Behind::front_put, crate::proofs::Behind::front_row))]
     fn copy_into<L: Ledger>(
         &mut self,
         node: NodeId,
@@ -236,6 +244,7 @@ impl Arena {
     }
 
     /// A copy of a node with all that it holds, as new rows.
+    #[tactic(auto, using(crate::proofs::Behind::front_kept))]
     fn copy_below<L: Ledger>(
         &mut self,
         node: NodeId,
@@ -269,6 +278,7 @@ impl Arena {
     }
 
     /// Copies of nodes with all that they hold, in order.
+    #[tactic(auto, using(crate::proofs::Behind::front_kept))]
     fn copy_each<L: Ledger>(
         &mut self,
         nodes: &[NodeId],
@@ -288,7 +298,8 @@ impl Arena {
     {
         let mut steps = Steps::<L>::new(blank);
         let mut copies = Items::new(self.payload.alloc());
-        for node in nodes.iter().copied() {
+        for at in 0..nodes.len() {
+            let node = nodes[at];
             let copy = self.copy_below(node, mark, &mut steps)?;
             match copies.push(copy) {
                 Ok(()) => {}
@@ -306,7 +317,8 @@ impl Arena {
         let mut most_nodes = self.forest.nodes();
         let mut most_places = self.forest.places();
         let mut room = 0;
-        for node in nodes.iter().copied() {
+        for at in 0..nodes.len() {
+            let node = nodes[at];
             let size = self.size(node);
             most_nodes += size.nodes as usize;
             most_places += size.places as usize;
@@ -333,6 +345,7 @@ impl Arena {
     /// Copies of nodes with all that they hold, as new roots in order, all or none. Their numbers
     /// follow those that were there, in preorder; places of a node follow each other, single ones
     /// first. A copy keeps the numbers of the source and the names of places.
+    #[tactic(auto, using(crate::proofs::Behind::front_kept, crate::proofs::Behind::grows_front, crate::proofs::Behind::new_roots))]
     pub fn copy_all(&mut self, nodes: &[NodeId]) -> Result<Copies, ArenaFault>
         requires nodes { All (λ j. j < length self.old.forest.nodes) nodes.now }
         ensures ok { OnOk result (Grows self.old self.new) }
@@ -381,6 +394,7 @@ impl Arena {
 
     /// A copy of a node with all that it holds, as a new root. The numbers of its nodes and places
     /// are those of `copy_all`.
+    #[tactic(auto, using(crate::proofs::Behind::front_kept, crate::proofs::Behind::grows_front, crate::proofs::Behind::new_roots))]
     pub fn copy(&mut self, node: NodeId) -> Result<NodeId, ArenaFault>
         requires at { node < length self.old.forest.nodes }
         ensures number { IfOk result (λ j. j ≡ length self.old.forest.nodes) }

@@ -2,6 +2,7 @@
 
 ghost use Rattle.std.specs.Prelude.{◌≡◌, ◌<◌, ◌≤◌, ◌+◌, ◌-◌, ◌*◌, ◌^◌, Some, None, true, length, max, IfOk, IsOk, OnOk, OnErr, IfSome};
 ghost use Rattle.node_arena.specs.Forest.{IsLawful, IsListSlot, Joins, MayGo, clear_of, front_forest, insert_after_of, insert_before_of, insert_first_of, linked_of, list_at, make_of, node_at, put_of, start_forest, unlink_of};
+ghost use Rattle.node_arena.specs.Fronts.{HasFewSlots};
 ghost use Rattle.node_arena.specs.Reads.{base_at, first_at, index_at, kind_at, next_at, owner_at, place_at, prev_at, state_at};
 ghost use Rattle.type_defs.specs.Fields.{is_list_at};
 
@@ -196,7 +197,7 @@ impl LinkedForest {
         self.links.places()
     }
 
-    #[tactic(auto, using(crate::proofs::Fronts::long_slots))]
+    #[tactic(auto, using(crate::proofs::Fronts::slots_count, crate::proofs::Fronts::slots_few))]
     pub fn slots(&self) -> usize
         ensures count { result ≡ length self.now.forest.slots }
         ensures few { result ≤ 4 * length self.now.forest.nodes }
@@ -208,10 +209,9 @@ impl LinkedForest {
     #[tactic(auto, using(crate::proofs::Fronts::cut_case))]
     pub fn cut(&mut self, nodes: usize, slots: usize, places: usize, spare: u32)
         requires lawful { IsLawful (front_forest nodes slots places self.old.forest) }
-        requires nodes { nodes ≤ length self.old.forest.nodes }
-        requires few { slots ≤ 4 * nodes }
+        requires few { HasFewSlots (front_forest nodes slots places self.old.forest) }
         requires spare { spare ≤ self.old.spare }
-        ensures { self.new ≡ linked_of (front_forest nodes slots places self.old.forest) spare }
+        ensures after { self.new ≡ linked_of (front_forest nodes slots places self.old.forest) spare }
     {
         self.links.cut(nodes, slots, places, spare);
     }
@@ -220,8 +220,7 @@ impl LinkedForest {
     #[tactic(auto, using(crate::proofs::Fronts::lawful_told))]
     pub fn laws(&self)
         ensures { IsLawful self.now.forest }
-    {
-    }
+    {}
 
     #[tactic(auto, using(crate::proofs::Told::node_row, crate::proofs::Told::kind_told))]
     pub fn kind(&self, node: u32) -> u8

@@ -13,13 +13,16 @@ mod forest;
 mod ids;
 mod links;
 mod payload;
+mod preorder;
 mod state;
 mod steps;
-mod walks;
+#[cfg(test)]
+mod tests;
 
 pub use arena::{Arena, MOST_NODES, MOST_PLACES};
+pub use cloning::{copy_comments, copy_scalar};
 pub use copies::Copies;
 pub use ids::{NodeId, PlaceId};
+pub use preorder::Size;
 pub use state::{ArenaFault, PlaceState};
 pub use steps::Steps;
-pub use walks::Size;

@@ -137,12 +137,7 @@ impl Payload {
     }
 
     /// A new node that says what another says, with so many places that have no names.
-    pub fn copy_node(
-        &mut self,
-        node: u32,
-        scalars: usize,
-        places: usize,
-    ) -> Result<(), AllocError>
+    pub fn copy_node(&mut self, node: u32, scalars: usize, places: usize) -> Result<(), AllocError>
         requires at { node < length self.old.facts }
         requires spare { 0 < self.old.spare }
         requires few_scalars { scalars ≤ 4 }

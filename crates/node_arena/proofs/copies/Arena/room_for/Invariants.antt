@@ -1,8 +1,8 @@
 use Rattle.std.proofs.Common.{◌≤◌, ◌^◌, ◌*◌, ◌+◌, length}
 use Rattle.node_arena.proofs.copies.Arena.room_for.Given as goal
 
-abbrev pub invariant-loop-node : goal.invariant-loop-node
-invariant-loop-node l = record {
+abbrev pub invariant-loop-at : goal.invariant-loop-node
+invariant-loop-at l = record {
   nodes : l.most_nodes ≤ 2 ^ 22;
   places : l.most_places ≤ 2 ^ 26;
   room : l.room ≤ l.most_nodes + l.most_places;

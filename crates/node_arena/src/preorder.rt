@@ -1,6 +1,9 @@
 //! Walks over what a node holds, and up from a place. They follow links and take no memory.
 
-ghost use Rattle.std.specs.Prelude.{◌≡◌, ◌+◌, ◌<◌, ◌≤◌, length, IfSome};
+ghost use Rattle.std.specs.Prelude.{◌≡◌, ◌+◌, ◌<◌, ◌≤◌, ◌↔◌, None, false, length, IfSome, IsTrue};
+ghost use Rattle.node_arena.specs.Climbs.{climbs};
+ghost use Rattle.node_arena.specs.Forest.{Holds, IsRoot, MayGo};
+ghost use Rattle.node_arena.specs.Reads.{place_at};
 
 use crate::arena::Arena;
 use crate::ids::{NodeId, PlaceId};
@@ -116,9 +119,13 @@ impl Arena {
     }
 
     /// Whether a node holds a place, at any depth.
+    #[tactic(auto, using(crate::proofs::Climbing::climbs_more, crate::proofs::Climbing::climbs_past))]
     pub fn holds(&self, node: NodeId, place: PlaceId) -> bool
         requires at { place < length self.now.forest.places }
+        ensures climbs { result ≡ climbs (length self.now.forest.nodes) self.now.forest node place }
+        ensures apart { result ≡ false → Holds self.now.forest node place → ⊥ }
     {
+        self.forest.laws();
         let mut at = place;
         for _turn in 0..self.nodes() {
             let Some(owner) = self.owner(at) else {
@@ -132,21 +139,27 @@ impl Arena {
             };
             at = above;
         }
-        false
+        true
     }
 
     /// Whether a node is a root: it stands in no place.
+    #[tactic(auto, using(crate::proofs::Climbing::root_told))]
     pub fn is_root(&self, node: NodeId) -> bool
         requires at { node < length self.now.forest.nodes }
+        ensures exact { IsTrue result ↔ place_at self.now.forest node ≡ None }
+        ensures root { IsTrue result → IsRoot self.now.forest node }
     {
         self.place_of(node).is_none()
     }
 
     /// Whether a node may go into a place: it is a root and does not hold the place.
+    #[tactic(auto, using(crate::proofs::Climbing::may_go_told))]
     pub fn may_go(&self, node: NodeId, place: PlaceId) -> bool
         requires node { node < length self.now.forest.nodes }
         requires place { place < length self.now.forest.places }
+        ensures { IsTrue result → MayGo self.now.forest place node }
     {
+        self.forest.laws();
         self.is_root(node) && !self.holds(node, place)
     }
 }
