@@ -1,5 +1,5 @@
 -- Each step behind a mark leaves the rows before it.
-use Rattle.std.proofs.Common.{◌≡◌, ◌≢◌, inl, inr, ⊎_elim, sym, ◌∙◌, ap, subst, refl, ℕ, zero, suc, ◌+◌, ◌-◌, ◌*◌, ◌<◌, ◌≤◌, ◌^◌, Bool, true, false, List, [], ◌∷◌, ◌++◌, length, map, take, Option, Some, None, slice_get, slice_set, replicate, arith, length-append, if◌then◌else◌}
+use Rattle.std.proofs.Common.{◌≡◌, ◌≢◌, inl, inr, ⊎_elim, sym, ◌∙◌, ap, subst, refl, ℕ, zero, suc, All, ◌+◌, ◌-◌, ◌*◌, ◌<◌, ◌≤◌, ◌^◌, Bool, true, false, List, [], ◌∷◌, ◌++◌, length, map, take, Option, Some, None, slice_get, slice_set, replicate, arith, length-append, if◌then◌else◌}
 use Rattle.std.proofs.lemmas.List.{length-take, take-append-le, take-set-le}
 use Rattle.std.proofs.Math.Seq.{take-length}
 use Rattle.tree_core.specs.declared.tree.PlaceName.{PlaceName}
@@ -12,9 +12,9 @@ use Rattle.node_arena.specs.Rows.{edit, new_node, standing_at}
 use Rattle.node_arena.specs.Lists.{insert_after}
 use Rattle.node_arena.specs.Forest.{Forest, IsLawful, IsListSlot, IsRoot, Linked, Place, Slot, at_slot, cleared, empty_place, fill_of, front_forest, given, grown, holding, insert_after_of, insert_first_of, linked_of, list_at, list_if, list_of, make_of, new_places, new_slots, node_at, owner_of, put_of, slot_at, with_kids}
 use Rattle.node_arena.specs.Payload.{Said, said_of, copied_facts, scalars_from, first_in}
-use Rattle.node_arena.specs.Fronts.{Grows, HasFewSlots, IsFront, IsLastIn, IsNewRoot, IsRootBehind, MayGoBefore, front}
+use Rattle.node_arena.specs.Fronts.{Grows, HasFewSlots, IsFront, IsLastIn, IsLonger, IsNewRoot, IsRootBehind, MayGoBefore, front}
 use Rattle.node_arena.specs.Reads.{kind_at}
-use Rattle.node_arena.specs.Store.{IsStore, Store, changed, copied_as, copied_in, placed, store_of, with_name, single_count}
+use Rattle.node_arena.specs.Store.{IsStore, Store, changed, copied_as, copied_in, placed, reserved, store_of, with_name, single_count}
 use Rattle.node_arena.proofs.Edits.{edit_here}
 use Rattle.node_arena.proofs.Pushes.{push_new}
 use Rattle.node_arena.proofs.Fronts.{goes_before, take_edit, take_within}
@@ -89,28 +89,33 @@ list_grown F s f w =
     let q = push_new F.places (empty_place s) in
     ap (λ o. list_of (grown F s f) (owner_of o)) q ∙ list_on s (with_kids f w.slot) _ (edit_here F.slots s (with_kids f) w.slot w.is) w.list
 
-slot_grown : (F : Forest) (s : ℕ) (f : List ℕ → List ℕ) → IsListSlot F s → IsListSlot (grown F s f) s
-slot_grown F s f w = record { slot = with_kids f w.slot; is = edit_here F.slots s (with_kids f) w.slot w.is; list = w.list }
-
-pub record IsLonger (F G : Forest) (s : ℕ) : Type 0 where
-  pub nodes : G.nodes ≡ F.nodes
-  pub places : length G.places ≡ length F.places + 1
-  pub list : IsListSlot G s
-  pub last : IsLastIn G s (Some (length F.places))
-
-longer_grown : (F : Forest) (s : ℕ) (f : List ℕ → List ℕ) → IsListSlot F s → IsLonger F (grown F s f) s
+longer_grown : (F : Forest) (s : ℕ) (f : List ℕ → List ℕ) → IsListSlot F s → IsLonger F (grown F s f) s (length F.places)
 longer_grown F s f w =
     let e = length-append F.places (empty_place s ∷ []) in
-    record { nodes = refl; places = e; list = slot_grown F s f w; last = (omega arith, list_grown F s f w) }
+    record { nodes = refl; places = omega arith; within = omega arith; last = (omega arith, list_grown F s f w) }
 
-pub longer_first : (A B : Store) (s : ℕ) → IsListSlot A.forest s → B ≡ placed A (insert_first_of A.forest s None) → IsLonger A.forest B.forest s
-longer_first A B s w e = subst (λ (z : Store). IsLonger A.forest z.forest s) (sym e) (longer_grown A.forest s (λ xs. length A.forest.places ∷ xs) w)
+pub longer_first : (A B : Store) (s p : ℕ) → IsListSlot A.forest s → p ≡ length A.forest.places → B ≡ placed A (insert_first_of A.forest s None) → IsLonger A.forest B.forest s p
+longer_first A B s p w e h =
+    subst (IsLonger A.forest B.forest s) (sym e) (subst (λ (z : Store). IsLonger A.forest z.forest s (length A.forest.places)) (sym h) (longer_grown A.forest s (λ xs. length A.forest.places ∷ xs) w))
 
-pub longer_after : (A B : Store) (s p : ℕ) → IsListSlot A.forest s → list_at A.forest p ≡ Some s → B ≡ placed A (insert_after_of A.forest p None) → IsLonger A.forest B.forest s
-longer_after A B s p w l e =
+list_flag : (F : Forest) (s t : ℕ) (n : Slot) (b : Bool) → n.list ≡ b → slice_get F.slots t ≡ Some n → (if b then Some t else None) ≡ Some s → IsListSlot F s
+list_flag F s t n true l g e = let same : t ≡ s = cc in record { slot = n; is = subst (λ z. slice_get F.slots z ≡ Some n) same g; list = l }
+list_flag F s t n false l g e = absurd (cc)
+
+list_if_some : (F : Forest) (s t : ℕ) (o : Option Slot) → slice_get F.slots t ≡ o → list_if t o ≡ Some s → IsListSlot F s
+list_if_some F s t None g e = absurd (cc)
+list_if_some F s t (Some n) g e = list_flag F s t n n.list refl g e
+
+list_of_some : (F : Forest) (s : ℕ) (o : Option ℕ) → list_of F o ≡ Some s → IsListSlot F s
+list_of_some F s None e = absurd (cc)
+list_of_some F s (Some t) e = list_if_some F s t (slice_get F.slots t) refl e
+
+pub longer_after : (A B : Store) (s q p : ℕ) → list_at A.forest q ≡ Some s → p ≡ length A.forest.places → B ≡ placed A (insert_after_of A.forest q None) → IsLonger A.forest B.forest s p
+longer_after A B s q p l e h =
     let n : ℕ = length A.forest.places in
-    let f = at_list A.forest (list_at A.forest p) s (λ z. given (grown A.forest z (insert_after p n)) n None) l in
-    subst (λ (z : Store). IsLonger A.forest z.forest s) (sym (e ∙ ap (placed A) f)) (longer_grown A.forest s (insert_after p n) w)
+    let f = at_list A.forest (list_at A.forest q) s (λ z. given (grown A.forest z (insert_after q n)) n None) l in
+    subst (IsLonger A.forest B.forest s) (sym e)
+    (subst (λ (z : Store). IsLonger A.forest z.forest s n) (sym (h ∙ ap (placed A) f)) (longer_grown A.forest s (insert_after q n) (list_of_some A.forest s (slot_at A.forest q) l)))
 
 -- A place gets a name.
 pub front_name : (m : Mark) (A B : Store) (p : ℕ) (name : PlaceName) → B ≡ with_name A p name → m.places ≤ p → front m B ≡ front m A
@@ -148,6 +153,12 @@ new_roots m A B j e w f now le lt root =
       within = lt;
       may = subst (λ z. MayGoBefore B.forest z j) (sym w.places) (goes_before m.nodes m.slots m.places B.forest old now j le root);
     }
+
+pub all_new_roots : (m : Mark) (A B : Store) (xs : List ℕ) → front m A ≡ A → IsFront m A → front m B ≡ front m A → IsLawful B.forest → All (λ j. IsRootBehind m B.forest j) xs → All (λ j. IsNewRoot B.forest (length A.forest.nodes) (length A.forest.places) j) xs
+all_new_roots m A B xs e w f now all = λ k d lt. let b = all k d lt in new_roots m A B _ e w f now b.new b.within b.root
+
+pub front_reserved : (m : Mark) (A B : Store) (n : ℕ) → B ≡ reserved A n → front m B ≡ front m A
+front_reserved m A B n e = ap (front m) e
 
 pub grows_front : (m : Mark) (A B : Store) → front m A ≡ A → IsFront m A → front m B ≡ front m A → Grows A B
 grows_front m A B e w f =

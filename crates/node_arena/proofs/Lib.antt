@@ -12,6 +12,7 @@ pub mod Methods
 pub mod Owners
 pub mod Pushes
 pub mod Repeats
+pub mod Roots
 pub mod Seats
 pub mod Shapes
 pub mod Splits

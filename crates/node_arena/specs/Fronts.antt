@@ -62,3 +62,17 @@ pub record IsRootBehind (m : Mark) (F : Forest) (j : ℕ) : Type 0 where
   pub new : m.nodes ≤ j
   pub within : j < length F.nodes
   pub root : IsRoot F j
+
+-- a list has one place more
+pub record IsLonger (F G : Forest) (s p : ℕ) : Type 0 where
+  pub nodes : G.nodes ≡ F.nodes
+  pub places : length F.places ≤ length G.places
+  pub within : p < length G.places
+  pub last : IsLastIn G s (Some p)
+
+-- a node was made behind those that were there, and roots are roots
+pub record IsCopied (A B : Store) (j : ℕ) : Type 0 where
+  pub number : j ≡ length A.forest.nodes
+  pub within : j < length B.forest.nodes
+  pub places : length A.forest.places ≤ length B.forest.places
+  pub roots : (i : ℕ) → i < length A.forest.nodes → IsRoot A.forest i → IsRoot B.forest i

@@ -1,10 +1,11 @@
 //! Copies of nodes with all that they hold, as new rows behind the others. After a refusal the rows
 //! that were made are taken away again.
 
-ghost use Rattle.std.specs.Prelude.{◌≡◌, ◌≢◌, ◌<◌, ◌≤◌, ◌*◌, ℕ, None, Some, Err, All, length, IfOk, IfSome, OnOk, OnErr};
-ghost use Rattle.node_arena.specs.Forest.{IsListSlot, IsRoot};
-ghost use Rattle.node_arena.specs.Fronts.{Grows, IsFront, IsLastIn, IsNewRoot, IsRootBehind, MayGoBefore, front};
-ghost use Rattle.node_arena.specs.Reads.{base_at};
+ghost use Rattle.std.specs.Prelude.{◌≡◌, ◌≢◌, ◌+◌, ◌<◌, ◌≤◌, true, None, Some, Err, All, length, IfOk, IfSome, OnOk, OnErr};
+ghost use Rattle.type_defs.specs.Fields.{is_list_at};
+ghost use Rattle.node_arena.specs.Forest.{IsRoot};
+ghost use Rattle.node_arena.specs.Fronts.{Grows, IsCopied, IsFront, IsLastIn, IsLonger, IsNewRoot, IsRootBehind, MayGoBefore, front};
+ghost use Rattle.node_arena.specs.Reads.{base_at, kind_at};
 ghost use Rattle.node_arena.specs.Store.{copied_in, reserved};
 
 use crate::arena::{Arena, MOST_NODES, MOST_PLACES, singles};
@@ -111,58 +112,55 @@ impl Arena {
     }
 
     /// A new place at the end of a new node's list.
-    #[tactic(auto, using(crate::proofs::Behind::front_first, crate::proofs::Behind::front_after))]
+    #[tactic(auto, using(crate::proofs::Behind::front_first, crate::proofs::Behind::front_after, crate::proofs::Behind::longer_first, crate::proofs::Behind::longer_after))]
     fn push_place<L: Ledger>(
         &mut self,
-        list: u32,
+        copy: NodeId,
+        slot: u8,
         last: Option<PlaceId>,
         mark: Mark,
         steps: &mut Steps<L>,
     ) -> Result<PlaceId, ArenaFault>
-        requires list { IsListSlot self.old.forest list }
-        requires new { mark.slots ≤ list }
-        requires last { IsLastIn self.old.forest list last }
+        requires copy { copy < length self.old.forest.nodes }
+        requires list { is_list_at (kind_at self.old.forest copy) slot ≡ true }
+        requires new { mark.slots ≤ base_at self.old.forest copy }
+        requires last { IsLastIn self.old.forest (base_at self.old.forest copy + slot) last }
         requires front { IsFront mark (front mark self.old) }
         requires spare { mark.spare ≤ self.old.spare }
+        ensures ok { IfOk result (λ p. IsLonger self.old.forest self.new.forest (base_at self.old.forest copy + slot) p) }
         ensures front { front mark self.new ≡ front mark self.old }
-        ensures nodes { self.new.forest.nodes ≡ self.old.forest.nodes }
-        ensures places { length self.old.forest.places ≤ length self.new.forest.places }
-        ensures within { IfOk result (λ p. p < length self.new.forest.places) }
-        ensures list { IsListSlot self.new.forest list }
-        ensures last { IfOk result (λ p. IsLastIn self.new.forest list (Some p)) }
         ensures spare { mark.spare ≤ self.new.spare }
     {
-        if self.forest.places() >= MOST_PLACES {
-            return Err(ArenaFault::Full);
-        }
-        if self.forest.spare() <= mark.spare {
+        if self.spare() <= mark.spare {
             return Err(ArenaFault::NoMemory);
         }
-        let new = match last {
-            None => self.forest.insert_first(list, None, steps),
-            Some(last) => self.forest.insert_after(list, last.number(), None, steps),
+        let _list = self.forest.list_slot(copy.number(), slot);
+        let Some(last) = last else {
+            return self.insert_first(copy, slot, None, steps);
         };
-        self.payload.push_place();
-        Ok(PlaceId::numbered(new))
+        self.insert_after(last, None, steps)
     }
 
-    /// Gives a new node's list as many places as a list of another has, with their names.
+    /// Gives a new node's list as many places as a list of another has, from its first on, with
+    /// their names.
     #[tactic(auto, using(crate::proofs::Behind::front_kept))]
     fn copy_list<L: Ledger>(
         &mut self,
         first: Option<PlaceId>,
-        list: u32,
+        copy: NodeId,
+        slot: u8,
         mark: Mark,
         steps: &mut Steps<L>,
     ) -> Result<(), ArenaFault>
         requires first { IfSome first (λ p. p < length self.old.forest.places) }
-        requires list { IsListSlot self.old.forest list }
-        requires new { mark.slots ≤ list }
+        requires copy { copy < length self.old.forest.nodes }
+        requires list { is_list_at (kind_at self.old.forest copy) slot ≡ true }
+        requires new { mark.slots ≤ base_at self.old.forest copy }
         requires front { IsFront mark (front mark self.old) }
         requires spare { mark.spare ≤ self.old.spare }
+        ensures nodes { OnOk result (self.new.forest.nodes ≡ self.old.forest.nodes) }
+        ensures places { OnOk result (length self.old.forest.places ≤ length self.new.forest.places) }
         ensures front { front mark self.new ≡ front mark self.old }
-        ensures nodes { self.new.forest.nodes ≡ self.old.forest.nodes }
-        ensures places { length self.old.forest.places ≤ length self.new.forest.places }
         ensures spare { mark.spare ≤ self.new.spare }
     {
         let mut from = first;
@@ -171,7 +169,7 @@ impl Arena {
             let Some(place) = from else {
                 return Ok(());
             };
-            let new = self.push_place(list, last, mark, steps)?;
+            let new = self.push_place(copy, slot, last, mark, steps)?;
             self.copy_name(place, new, mark);
             last = Some(new);
             from = self.next(place);
@@ -193,26 +191,56 @@ impl Arena {
         requires new { mark.slots ≤ base_at self.old.forest copy }
         requires front { IsFront mark (front mark self.old) }
         requires spare { mark.spare ≤ self.old.spare }
+        ensures nodes { OnOk result (self.new.forest.nodes ≡ self.old.forest.nodes) }
+        ensures places { OnOk result (length self.old.forest.places ≤ length self.new.forest.places) }
         ensures front { front mark self.new ≡ front mark self.old }
-        ensures nodes { self.new.forest.nodes ≡ self.old.forest.nodes }
-        ensures places { length self.old.forest.places ≤ length self.new.forest.places }
         ensures spare { mark.spare ≤ self.new.spare }
     {
-        let kind = self.kind(copy);
         for slot in 0..MOST_SLOTS {
             let first = self.slot_first(node, slot);
-            if is_list(kind, slot) {
-                let list = self.forest.list_slot(copy.number(), slot);
-                self.copy_list(first, list, mark, steps)?;
-            } else if let (Some(from), Some(to)) = (first, self.slot_first(copy, slot)) {
-                self.copy_name(from, to, mark);
+            if is_list(self.kind(copy), slot) {
+                self.copy_list(first, copy, slot, mark, steps)?;
+            } else if let Some(from) = first {
+                if let Some(to) = self.slot_first(copy, slot) {
+                    self.copy_name(from, to, mark);
+                }
             }
         }
         Ok(())
     }
 
-    /// A copy of a node with its places, which are empty, and put into a new place.
-    #[tactic(auto, using(crate::proofs::Behind::front_kept, crate::proofs::Behind::front_put, crate::proofs::Behind::front_row))]
+    /// A copy of a node without what it holds, put into a new place if one is given.
+    #[tactic(auto, using(crate::proofs::Behind::front_row, crate::proofs::Behind::front_put, crate::proofs::Roots::copied_row, crate::proofs::Roots::copied_put, crate::proofs::Roots::base_row, crate::proofs::Roots::base_put, crate::proofs::Roots::root_new))]
+    fn copy_row_into<L: Ledger>(
+        &mut self,
+        node: NodeId,
+        to: Option<PlaceId>,
+        mark: Mark,
+        steps: &mut Steps<L>,
+    ) -> Result<NodeId, ArenaFault>
+        requires node { node < length self.old.forest.nodes }
+        requires to { IfSome to (λ p. p < length self.old.forest.places) }
+        requires front { IsFront mark (front mark self.old) }
+        requires spare { mark.spare ≤ self.old.spare }
+        ensures ok { IfOk result (λ j. IsCopied self.old self.new j) }
+        ensures base { IfOk result (λ j. mark.slots ≤ base_at self.new.forest j) }
+        ensures root { to ≡ None → IfOk result (λ j. IsRoot self.new.forest j) }
+        ensures front { front mark self.new ≡ front mark self.old }
+        ensures spare { mark.spare ≤ self.new.spare }
+    {
+        let copy = self.copy_row(node, mark)?;
+        let Some(to) = to else {
+            return Ok(copy);
+        };
+        if (to.number() as usize) < mark.places || self.node_at(to).is_some() {
+            return Err(ArenaFault::NoMemory);
+        }
+        self.put(to, copy, steps);
+        Ok(copy)
+    }
+
+    /// A copy of a node with its places, which are empty, put into a new place if one is given.
+    #[tactic(auto, using(crate::proofs::Behind::front_kept, crate::proofs::Roots::copied_places, crate::proofs::Roots::root_same))]
     fn copy_into<L: Ledger>(
         &mut self,
         node: NodeId,
@@ -224,27 +252,18 @@ impl Arena {
         requires to { IfSome to (λ p. p < length self.old.forest.places) }
         requires front { IsFront mark (front mark self.old) }
         requires spare { mark.spare ≤ self.old.spare }
-        ensures number { IfOk result (λ j. j ≡ length self.old.forest.nodes) }
-        ensures grown { IfOk result (λ j. j < length self.new.forest.nodes) }
-        ensures front { front mark self.new ≡ front mark self.old }
-        ensures places { length self.old.forest.places ≤ length self.new.forest.places }
-        ensures spare { mark.spare ≤ self.new.spare }
-        ensures roots { (j : ℕ) → j < length self.old.forest.nodes → IsRoot self.old.forest j → IsRoot self.new.forest j }
+        ensures ok { IfOk result (λ j. IsCopied self.old self.new j) }
         ensures root { to ≡ None → IfOk result (λ j. IsRoot self.new.forest j) }
+        ensures front { front mark self.new ≡ front mark self.old }
+        ensures spare { mark.spare ≤ self.new.spare }
     {
-        let copy = self.copy_row(node, mark)?;
-        if let Some(to) = to {
-            if (to.number() as usize) < mark.places || self.node_at(to).is_some() {
-                return Err(ArenaFault::NoMemory);
-            }
-            self.put(to, copy, steps);
-        }
+        let copy = self.copy_row_into(node, to, mark, steps)?;
         self.copy_places(node, copy, mark, steps)?;
         Ok(copy)
     }
 
     /// A copy of a node with all that it holds, as new rows.
-    #[tactic(auto, using(crate::proofs::Behind::front_kept))]
+    #[tactic(auto, using(crate::proofs::Behind::front_kept, crate::proofs::Roots::copied_more, crate::proofs::Roots::root_more))]
     fn copy_below<L: Ledger>(
         &mut self,
         node: NodeId,
@@ -254,18 +273,19 @@ impl Arena {
         requires node { node < length self.old.forest.nodes }
         requires front { IsFront mark (front mark self.old) }
         requires spare { mark.spare ≤ self.old.spare }
-        ensures number { IfOk result (λ j. j ≡ length self.old.forest.nodes) }
-        ensures grown { IfOk result (λ j. j < length self.new.forest.nodes) }
+        ensures ok { IfOk result (λ j. IsCopied self.old self.new j) }
+        ensures root { IfOk result (λ j. IsRoot self.new.forest j) }
         ensures front { front mark self.new ≡ front mark self.old }
         ensures spare { mark.spare ≤ self.new.spare }
-        ensures roots { (j : ℕ) → j < length self.old.forest.nodes → IsRoot self.old.forest j → IsRoot self.new.forest j }
-        ensures root { IfOk result (λ j. IsRoot self.new.forest j) }
     {
         let copy = self.copy_into(node, None, mark, steps)?;
         let mut from = self.first_place(node, 0);
         let mut to = self.first_place(copy, 0);
         for _turn in 0..self.places() {
-            let (Some(place), Some(new)) = (from, to) else {
+            let Some(place) = from else {
+                return Ok(copy);
+            };
+            let Some(new) = to else {
                 return Ok(copy);
             };
             if let Some(child) = self.node_at(place) {
@@ -278,7 +298,7 @@ impl Arena {
     }
 
     /// Copies of nodes with all that they hold, in order.
-    #[tactic(auto, using(crate::proofs::Behind::front_kept))]
+    #[tactic(auto, using(crate::proofs::Behind::front_kept, crate::proofs::Roots::roots_pushed))]
     fn copy_each<L: Ledger>(
         &mut self,
         nodes: &[NodeId],
@@ -339,13 +359,14 @@ impl Arena {
         ensures listed { result ≢ Err ArenaFault.NotInList }
     {
         let room = self.room_for(nodes)?;
-        self.reserve(self.spare().saturating_add(room))
+        let spare = self.spare();
+        self.reserve(spare.saturating_add(room))
     }
 
     /// Copies of nodes with all that they hold, as new roots in order, all or none. Their numbers
     /// follow those that were there, in preorder; places of a node follow each other, single ones
     /// first. A copy keeps the numbers of the source and the names of places.
-    #[tactic(auto, using(crate::proofs::Behind::front_kept, crate::proofs::Behind::grows_front, crate::proofs::Behind::new_roots))]
+    #[tactic(auto, using(crate::proofs::Behind::front_kept, crate::proofs::Behind::front_reserved, crate::proofs::Behind::grows_front, crate::proofs::Behind::all_new_roots))]
     pub fn copy_all(&mut self, nodes: &[NodeId]) -> Result<Copies, ArenaFault>
         requires nodes { All (λ j. j < length self.old.forest.nodes) nodes.now }
         ensures ok { OnOk result (Grows self.old self.new) }
@@ -384,8 +405,7 @@ impl Arena {
         requires spare { mark.spare ≤ self.old.spare }
         ensures front { front mark self.new ≡ front mark self.old }
         ensures spare { mark.spare ≤ self.new.spare }
-        ensures number { IfOk result (λ j. j ≡ length self.old.forest.nodes) }
-        ensures grown { IfOk result (λ j. j < length self.new.forest.nodes) }
+        ensures ok { IfOk result (λ j. IsCopied self.old self.new j) }
         ensures root { IfOk result (λ j. IsRoot self.new.forest j) }
     {
         let mut steps = Steps::<L>::new(blank);
@@ -394,7 +414,7 @@ impl Arena {
 
     /// A copy of a node with all that it holds, as a new root. The numbers of its nodes and places
     /// are those of `copy_all`.
-    #[tactic(auto, using(crate::proofs::Behind::front_kept, crate::proofs::Behind::grows_front, crate::proofs::Behind::new_roots))]
+    #[tactic(auto, using(crate::proofs::Behind::front_kept, crate::proofs::Behind::front_reserved, crate::proofs::Behind::grows_front, crate::proofs::Behind::new_roots))]
     pub fn copy(&mut self, node: NodeId) -> Result<NodeId, ArenaFault>
         requires at { node < length self.old.forest.nodes }
         ensures number { IfOk result (λ j. j ≡ length self.old.forest.nodes) }
