@@ -7,10 +7,40 @@ use Rattle.node_arena.specs.Forest.{Forest, Holds, IsBelow, IsLawful, IsPlaceOf,
 use Rattle.node_arena.proofs.Pushes.{item_at}
 use Rattle.node_arena.specs.Reads.{owner_at, owner_in, place_at, place_in, slot_node}
 
-pub climbs_more : (n : ℕ) (F : Forest) (node place : ℕ) → 0 < n → climbs n F node place ≡ climb_by F node (climbs (n - 1) F node) (owner_at F place)
+climbs_more : (n : ℕ) (F : Forest) (node place : ℕ) → 0 < n → climbs n F node place ≡ climb_by F node (climbs (n - 1) F node) (owner_at F place)
 unfolding climbs
 climbs_more zero F node place h = absurd (omega arith)
 climbs_more (suc n) F node place h = refl
+
+pub climb_end : (n : ℕ) (F : Forest) (node place : ℕ) → n ≡ 0 → climbs n F node place ≡ true
+unfolding climbs
+climb_end zero F node place h = refl
+climb_end (suc n) F node place h = absurd (omega arith)
+
+pub climb_none : (n : ℕ) (F : Forest) (node place : ℕ) → 0 < n → owner_at F place ≡ None → climbs n F node place ≡ false
+climb_none n F node place h o = climbs_more n F node place h ∙ ap (climb_by F node (climbs (n - 1) F node)) o
+
+-- the step from an owner, by the test
+climb_owner : (n : ℕ) (F : Forest) (node place k : ℕ) → 0 < n → owner_at F place ≡ Some k → climbs n F node place ≡ (if k == node then true else climb_on (climbs (n - 1) F node) (place_at F k))
+climb_owner n F node place k h o = climbs_more n F node place h ∙ ap (climb_by F node (climbs (n - 1) F node)) o
+
+pub climb_met : (n : ℕ) (F : Forest) (node place k : ℕ) → 0 < n → owner_at F place ≡ Some k → k ≡ node → climbs n F node place ≡ true
+climb_met n F node place k h o e =
+    climb_owner n F node place k h o
+    ∙ ⊎_elim (λ d. ap (λ (b : Bool). if b then true else climb_on (climbs (n - 1) F node) (place_at F k)) d.0) (λ d. absurd (d.1 e)) (eqb_tells k node)
+
+climb_other : (n : ℕ) (F : Forest) (node place k : ℕ) → 0 < n → owner_at F place ≡ Some k → k ≢ node → climbs n F node place ≡ climb_on (climbs (n - 1) F node) (place_at F k)
+climb_other n F node place k h o e =
+    climb_owner n F node place k h o
+    ∙ ⊎_elim (λ d. absurd (e d.1)) (λ d. ap (λ (b : Bool). if b then true else climb_on (climbs (n - 1) F node) (place_at F k)) d.0) (eqb_tells k node)
+
+pub climb_top : (n : ℕ) (F : Forest) (node place k : ℕ) → 0 < n → owner_at F place ≡ Some k → k ≢ node → place_at F k ≡ None → climbs n F node place ≡ false
+climb_top n F node place k h o e t = climb_other n F node place k h o e ∙ ap (climb_on (climbs (n - 1) F node)) t
+
+pub climb_up : (n m : ℕ) (F : Forest) (node place k above : ℕ) → n ≡ m + 1 → owner_at F place ≡ Some k → k ≢ node → place_at F k ≡ Some above → climbs n F node place ≡ climbs m F node above
+climb_up n m F node place k above h o e t =
+    let less : n - 1 ≡ m = omega arith in
+    climb_other n F node place k (omega arith) o e ∙ (ap (climb_on (climbs (n - 1) F node)) t ∙ ap (λ z. climbs z F node above) less)
 
 -- the last step down to a node
 record IsLast (F : Forest) (i k : ℕ) : Type 0 where

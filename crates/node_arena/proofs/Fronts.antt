@@ -152,3 +152,12 @@ cut_case t u A n s p spare a v old few e =
     subst (λ (z : Linked). Ends_as u (linked_of (front_forest n s p z.forest) spare)) v
     (subst (λ z. Ends_as z (linked_of (front_forest n s p (forest_of t.rows)) spare)) (sym e)
     (cut_keeps t.rows n s p spare a (subst (λ (z : Linked). IsLawful (front_forest n s p z.forest)) (sym v) old) (subst (λ (z : Linked). HasFewSlots (front_forest n s p z.forest)) (sym v) few)))
+
+pub made_apart : (t u : Table) (A : Linked) (kind n j : ℕ) → IsTable t.rows → Shows t A → IsTable u.rows → Shows u (linked_of (make_of A.forest kind) n) → j ≡ length t.rows.nodes → MayGoBefore (forest_of u.rows) (length A.forest.places) j
+made_apart t u A kind n j a v b w h =
+    let e : forest_of u.rows ≡ make_of A.forest kind = ap (λ (z : Linked). z.forest) w in
+    let old : IsLawful A.forest = lawful_told t A a v in
+    let now : IsLawful (make_of A.forest kind) = subst IsLawful e b.lawful in
+    let number : j ≡ length A.forest.nodes = h ∙ ap (λ (z : Linked). length z.forest.nodes) v in
+    subst (λ z. MayGoBefore z (length A.forest.places) j) (sym e)
+    (subst (λ z. MayGoBefore (make_of A.forest kind) (length A.forest.places) z) (sym number) (made_goes A.forest kind old now))

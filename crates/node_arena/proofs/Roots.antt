@@ -24,7 +24,7 @@ root_made F kind j lt r =
 pub root_new : (A B : Store) (node j : ℕ) → B ≡ copied_in A node → j ≡ length A.forest.nodes → IsRoot B.forest j
 root_new A B node j e n =
     subst (λ (z : Store). IsRoot z.forest j) (sym e)
-    (subst (IsRoot (copied_in A node).forest) (sym n)
+    (subst (λ z. IsRoot (copied_in A node).forest z) (sym n)
     (subst IsRoot_row (sym (push_new A.forest.nodes (new_node (kind_at A.forest node) (length A.forest.slots)))) refl))
 
 row_copied : (A : Store) (node : ℕ) → IsCopied A (copied_in A node) (length A.forest.nodes)

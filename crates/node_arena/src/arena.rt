@@ -108,7 +108,6 @@ impl Arena {
 
     /// A new node of a kind, a root: its lists are empty, its other places too, its scalars null.
     /// It may go into each place that was there before.
-    #[tactic(auto, using(crate::proofs::Fronts::made_goes))]
     pub fn make(&mut self, kind: u8) -> Result<NodeId, ArenaFault>
         ensures number { IfOk result (λ j. j ≡ length self.old.forest.nodes) }
         ensures ok { OnOk result (self.new ≡ make_in self.old kind) }
@@ -129,9 +128,7 @@ impl Arena {
             Ok(()) => {}
             Err(_) => return Err(ArenaFault::NoMemory),
         }
-        self.forest.laws();
         let node = self.forest.make(kind);
-        self.forest.laws();
         self.payload.make(scalar_count(kind), places);
         Ok(NodeId::numbered(node))
     }

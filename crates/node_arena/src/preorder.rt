@@ -119,7 +119,7 @@ impl Arena {
     }
 
     /// Whether a node holds a place, at any depth.
-    #[tactic(auto, using(crate::proofs::Climbing::climbs_more, crate::proofs::Climbing::climbs_past))]
+    #[tactic(auto, using(crate::proofs::Climbing::climb_end, crate::proofs::Climbing::climb_none, crate::proofs::Climbing::climb_met, crate::proofs::Climbing::climb_top, crate::proofs::Climbing::climb_up, crate::proofs::Climbing::climbs_past))]
     pub fn holds(&self, node: NodeId, place: PlaceId) -> bool
         requires at { place < length self.now.forest.places }
         ensures climbs { result ≡ climbs (length self.now.forest.nodes) self.now.forest node place }
@@ -160,6 +160,9 @@ impl Arena {
         ensures { IsTrue result → MayGo self.now.forest place node }
     {
         self.forest.laws();
-        self.is_root(node) && !self.holds(node, place)
+        if !self.is_root(node) {
+            return false;
+        }
+        !self.holds(node, place)
     }
 }
