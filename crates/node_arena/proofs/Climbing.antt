@@ -26,13 +26,13 @@ climb_owner n F node place k h o = climbs_more n F node place h ∙ ap (climb_by
 
 pub climb_met : (n : ℕ) (F : Forest) (node place k : ℕ) → 0 < n → owner_at F place ≡ Some k → k ≡ node → climbs n F node place ≡ true
 climb_met n F node place k h o e =
-    climb_owner n F node place k h o
-    ∙ ⊎_elim (λ d. ap (λ (b : Bool). if b then true else climb_on (climbs (n - 1) F node) (place_at F k)) d.0) (λ d. absurd (d.1 e)) (eqb_tells k node)
+    let on : (if k == node then true else climb_on (climbs (n - 1) F node) (place_at F k)) ≡ true = ⊎_elim (λ d. ap (λ (b : Bool). if b then true else climb_on (climbs (n - 1) F node) (place_at F k)) d.0) (λ d. absurd (d.1 e)) (eqb_tells k node) in
+    climb_owner n F node place k h o ∙ on
 
 climb_other : (n : ℕ) (F : Forest) (node place k : ℕ) → 0 < n → owner_at F place ≡ Some k → k ≢ node → climbs n F node place ≡ climb_on (climbs (n - 1) F node) (place_at F k)
 climb_other n F node place k h o e =
-    climb_owner n F node place k h o
-    ∙ ⊎_elim (λ d. absurd (e d.1)) (λ d. ap (λ (b : Bool). if b then true else climb_on (climbs (n - 1) F node) (place_at F k)) d.0) (eqb_tells k node)
+    let on : (if k == node then true else climb_on (climbs (n - 1) F node) (place_at F k)) ≡ climb_on (climbs (n - 1) F node) (place_at F k) = ⊎_elim (λ d. absurd (e d.1)) (λ d. ap (λ (b : Bool). if b then true else climb_on (climbs (n - 1) F node) (place_at F k)) d.0) (eqb_tells k node) in
+    climb_owner n F node place k h o ∙ on
 
 pub climb_top : (n : ℕ) (F : Forest) (node place k : ℕ) → 0 < n → owner_at F place ≡ Some k → k ≢ node → place_at F k ≡ None → climbs n F node place ≡ false
 climb_top n F node place k h o e t = climb_other n F node place k h o e ∙ ap (climb_on (climbs (n - 1) F node)) t
