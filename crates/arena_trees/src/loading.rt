@@ -13,6 +13,7 @@ use tree_core::{Parsed, Place, Slot, Tree};
 /// single places first. After a refusal the arena is as it was.
 pub fn load(alloc: Global, arena: &mut Arena, parsed: &Parsed) -> Result<PlaceId, ArenaFault>
     ensures root { IfOk result (λ p. p ≡ 0) }
+    ensures within { IfOk result (λ p. p < length arena.new.forest.places) }
     ensures err { OnErr result (arena.new ≡ arena.old) }
 {
     let mut loaded = Arena::new(alloc)?;
