@@ -29,7 +29,7 @@ make_places F kind = let e = length-append F.places (new_places (length F.slots)
 pub first_places : (F : Forest) (s : ℕ) → length (insert_first_of F s None).places ≡ length F.places + 1
 first_places F s = length-append F.places (empty_place s ∷ [])
 
-at_nodes : (F : Forest) (o : Option ℕ) (f : ℕ → List ℕ → List ℕ) → length (at_slot F o (λ s. grown F s (f s))).nodes ≡ length F.nodes
+at_nodes : (F : Forest) (o : Option ℕ) (f : ℕ → List ℕ → List ℕ) → (at_slot F o (λ s. grown F s (f s))).nodes ≡ F.nodes
 at_nodes F None f = refl
 at_nodes F (Some s) f = refl
 
@@ -37,7 +37,7 @@ at_places : (F : Forest) (o : Option ℕ) (f : ℕ → List ℕ → List ℕ) �
 at_places F None f n = absurd (n refl)
 at_places F (Some s) f n = length-append F.places (empty_place s ∷ [])
 
-pub after_nodes : (F : Forest) (p : ℕ) → length (insert_after_of F p None).nodes ≡ length F.nodes
+pub after_nodes : (F : Forest) (p : ℕ) → (insert_after_of F p None).nodes ≡ F.nodes
 after_nodes F p = at_nodes F (list_at F p) (λ _. insert_after p (length F.places))
 
 pub after_places : (F : Forest) (p : ℕ) → list_at F p ≢ None → length (insert_after_of F p None).places ≡ length F.places + 1

@@ -78,35 +78,38 @@ fn load_slot(
     ensures places { length arena.old.forest.places ≤ length arena.new.forest.places }
 {
     match slot {
-        Slot::Single(place) => load_place(alloc, arena, place, first),
+        Slot::Single(place) => {
+            let Some(at) = first else {
+                return Ok(());
+            };
+            load_place(alloc, arena, place, at)
+        }
         Slot::List(places) => {
             let mut at = first;
             for place in places.as_slice() {
-                load_place(alloc, arena, place, at)?;
-                at = match at {
-                    None => None,
-                    Some(at) => arena.next(at),
+                let Some(here) = at else {
+                    return Ok(());
                 };
+                load_place(alloc, arena, place, here)?;
+                at = arena.next(here);
             }
             Ok(())
         }
     }
 }
 
+/// What stands in a place comes into a place of the arena.
 #[cycle(load)]
 fn load_place(
     alloc: Global,
     arena: &mut Arena,
     place: &Place,
-    at: Option<PlaceId>,
+    at: PlaceId,
 ) -> Result<(), ArenaFault>
-    requires at { IfSome at (λ p. p < length arena.old.forest.places) }
+    requires at { at < length arena.old.forest.places }
     ensures nodes { length arena.old.forest.nodes ≤ length arena.new.forest.nodes }
     ensures places { length arena.old.forest.places ≤ length arena.new.forest.places }
 {
-    let Some(at) = at else {
-        return Ok(());
-    };
     match &place.node {
         None => Ok(()),
         Some(tree) => load_node(alloc, arena, tree.get(), at),

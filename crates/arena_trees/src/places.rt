@@ -1,7 +1,8 @@
 //! New nodes with their places, as a tree has them.
 
-ghost use Rattle.std.specs.Prelude.{◌≡◌, ◌<◌, ◌≤◌, None, length, IfOk, IfSome};
-ghost use Rattle.node_arena.specs.Forest.{list_at};
+ghost use Rattle.std.specs.Prelude.{◌≡◌, ◌<◌, ◌≤◌, true, length, IfOk, IfSome};
+ghost use Rattle.type_defs.specs.Fields.{is_list_at};
+ghost use Rattle.node_arena.specs.Reads.{kind_at};
 
 use node_arena::{Arena, ArenaFault, NodeId, PlaceId, Steps};
 use std::marker::Brand;
@@ -51,31 +52,45 @@ pub fn make_places(arena: &mut Arena, node: NodeId, slots: &[Slot]) -> Result<()
 {
     for index in 0..slots.len() {
         if index < MOST_SLOTS {
-            match &slots[index] {
-                Slot::Single(place) => name_single(arena, node, index as u8, place),
-                Slot::List(places) => {
-                    make_list::<Brand>(arena, node, index as u8, places.as_slice(), Blank::new(1))?;
-                }
-            }
+            make_slot(arena, node, index as u8, &slots[index])?;
         }
     }
     Ok(())
 }
 
-/// Gives the first place of a slot its name.
-fn name_single(arena: &mut Arena, node: NodeId, slot: u8, place: &Place)
+/// Gives a new node's slot as many places as another has, with their names.
+fn make_slot(arena: &mut Arena, node: NodeId, index: u8, slot: &Slot) -> Result<(), ArenaFault>
     requires at { node < length arena.old.forest.nodes }
-    ensures forest { arena.new.forest ≡ arena.old.forest }
+    ensures nodes { length arena.old.forest.nodes ≤ length arena.new.forest.nodes }
+    ensures places { length arena.old.forest.places ≤ length arena.new.forest.places }
 {
-    if let Some(at) = arena.slot_first(node, slot) {
-        if let Some(name) = place.name {
-            arena.set_name(at, name);
+    match slot {
+        Slot::Single(place) => {
+            if let Some(at) = arena.slot_first(node, index) {
+                name_place(arena, at, place);
+            }
+            Ok(())
+        }
+        Slot::List(places) => {
+            if !is_list(arena.kind(node), index) {
+                return Ok(());
+            }
+            make_list::<Brand>(arena, node, index, places.as_slice(), Blank::new(1))
         }
     }
 }
 
+/// Gives a place the name of another.
+fn name_place(arena: &mut Arena, at: PlaceId, place: &Place)
+    requires at { at < length arena.old.forest.places }
+    ensures forest { arena.new.forest ≡ arena.old.forest }
+{
+    if let Some(name) = place.name {
+        arena.set_name(at, name);
+    }
+}
+
 /// Gives a new node's empty list these places, empty, with their names.
-#[tactic(auto, using(crate::proofs::Growing::first_places, crate::proofs::Growing::after_nodes, crate::proofs::Growing::after_places))]
 fn make_list<L: Ledger>(
     arena: &mut Arena,
     node: NodeId,
@@ -87,25 +102,38 @@ fn make_list<L: Ledger>(
     requires parts { blank.parts ≡ L.parts }
     requires some { 0 < blank.parts }
     requires at { node < length arena.old.forest.nodes }
-    ensures nodes { length arena.old.forest.nodes ≤ length arena.new.forest.nodes }
+    requires list { is_list_at (kind_at arena.old.forest node) slot ≡ true }
+    ensures nodes { arena.new.forest.nodes ≡ arena.old.forest.nodes }
     ensures places { length arena.old.forest.places ≤ length arena.new.forest.places }
 {
     let mut steps = Steps::<L>::new(blank);
     let mut last = None;
     for place in places {
-        let new = match last {
-            None => {
-                if !is_list(arena.kind(node), slot) {
-                    return Ok(());
-                }
-                arena.insert_first(node, slot, None, &mut steps)?
-            }
-            Some(last) => arena.insert_after(last, None, &mut steps)?,
-        };
-        if let Some(name) = place.name {
-            arena.set_name(new, name);
-        }
+        let new = push_place(arena, node, slot, last, &mut steps)?;
+        name_place(arena, new, place);
         last = Some(new);
     }
     Ok(())
+}
+
+/// A new empty place of a list, after its last.
+#[tactic(auto, using(crate::proofs::Growing::first_places, crate::proofs::Growing::after_nodes, crate::proofs::Growing::after_places))]
+fn push_place<L: Ledger>(
+    arena: &mut Arena,
+    node: NodeId,
+    slot: u8,
+    last: Option<PlaceId>,
+    steps: &mut Steps<L>,
+) -> Result<PlaceId, ArenaFault>
+    requires at { node < length arena.old.forest.nodes }
+    requires list { is_list_at (kind_at arena.old.forest node) slot ≡ true }
+    requires last { IfSome last (λ p. p < length arena.old.forest.places) }
+    ensures within { IfOk result (λ p. p < length arena.new.forest.places) }
+    ensures nodes { arena.new.forest.nodes ≡ arena.old.forest.nodes }
+    ensures places { length arena.old.forest.places ≤ length arena.new.forest.places }
+{
+    let Some(last) = last else {
+        return arena.insert_first(node, slot, None, steps);
+    };
+    arena.insert_after(last, None, steps)
 }

@@ -1,9 +1,6 @@
 use Rattle.std.proofs.Common.{◌≤◌, length}
 use Rattle.arena_trees.proofs.places.make_places.Given as goal
 
-abbrev pub ghosts-make_list : goal.ghosts-make_list
-ghosts-make_list a = record { name = a.blank.name; parts = a.blank.parts }
-
 abbrev pub invariant-loop-index : goal.invariant-loop-index
 invariant-loop-index l = record {
   nodes : length l.initial.arena.forest.nodes ≤ length l.arena.forest.nodes;
