@@ -1,6 +1,6 @@
 use Rattle.std.proofs.Common.{◌≡◌, ◌-◌, ◌<◌, length}
 use Rattle.node_arena.specs.Climbs.{climbs}
-use Rattle.node_arena.proofs.preorder.Arena.holds.Given as goal
+use Rattle.node_arena.proofs.arena.Arena.holds.Given as goal
 
 abbrev pub invariant-loop-turn : goal.invariant-loop-turn
 invariant-loop-turn l = record {

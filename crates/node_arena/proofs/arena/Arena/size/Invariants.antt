@@ -1,5 +1,5 @@
 use Rattle.std.proofs.Common.{◌+◌, ◌<◌, ◌≤◌, length, IfSome}
-use Rattle.node_arena.proofs.preorder.Arena.size.Given as goal
+use Rattle.node_arena.proofs.arena.Arena.size.Given as goal
 
 abbrev pub invariant-loop-turn : goal.invariant-loop-turn
 invariant-loop-turn l = record {

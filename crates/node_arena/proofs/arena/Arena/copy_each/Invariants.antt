@@ -1,7 +1,7 @@
 use Rattle.std.proofs.Common.{◌≡◌, ◌<◌, ◌≤◌, ℕ, length, All}
 use Rattle.node_arena.specs.Forest.{IsRoot}
 use Rattle.node_arena.specs.Fronts.{IsRootBehind, front}
-use Rattle.node_arena.proofs.copies.Arena.copy_each.Given as goal
+use Rattle.node_arena.proofs.arena.Arena.copy_each.Given as goal
 
 abbrev pub invariant-loop-at : goal.invariant-loop-at
 invariant-loop-at g l = record {

@@ -1,5 +1,5 @@
 use Rattle.std.proofs.Common.{◌≤◌, ◌^◌, ◌*◌, ◌+◌, length}
-use Rattle.node_arena.proofs.copies.Arena.room_for.Given as goal
+use Rattle.node_arena.proofs.arena.Arena.room_for.Given as goal
 
 abbrev pub invariant-loop-at : goal.invariant-loop-node
 invariant-loop-at l = record {

@@ -1,6 +1,6 @@
 use Rattle.std.proofs.Common.{◌≡◌, ◌<◌, ◌≤◌, length}
 use Rattle.node_arena.specs.Fronts.{front}
-use Rattle.node_arena.proofs.copies.Arena.copy_places.Given as goal
+use Rattle.node_arena.proofs.arena.Arena.copy_places.Given as goal
 
 abbrev pub invariant-loop-slot : goal.invariant-loop-slot
 invariant-loop-slot g l = record {

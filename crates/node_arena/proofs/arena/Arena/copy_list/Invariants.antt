@@ -1,7 +1,7 @@
 use Rattle.std.proofs.Common.{◌≡◌, ◌+◌, ◌<◌, ◌≤◌, length, IfSome}
 use Rattle.node_arena.specs.Fronts.{IsLastIn, front}
 use Rattle.node_arena.specs.Reads.{base_at}
-use Rattle.node_arena.proofs.copies.Arena.copy_list.Given as goal
+use Rattle.node_arena.proofs.arena.Arena.copy_list.Given as goal
 
 abbrev pub invariant-loop-turn : goal.invariant-loop-turn
 invariant-loop-turn g l = record {
