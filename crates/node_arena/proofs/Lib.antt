@@ -1,6 +1,7 @@
 pub mod Behind
 pub mod Births
 pub mod Climbing
+pub mod Copying
 pub mod Edits
 pub mod Endings
 pub mod Fronts

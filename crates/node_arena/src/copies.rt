@@ -230,8 +230,13 @@ impl Arena {
         let Some(to) = to else {
             return Ok(copy);
         };
-        if (to.number() as usize) < mark.places || self.node_at(to).is_some() {
+        // The walk gives new places alone, each before a node comes into it.
+        if (to.number() as usize) < mark.places {
             return Err(ArenaFault::NoMemory);
+        }
+        match self.node_at(to) {
+            None => {}
+            Some(_) => return Err(ArenaFault::NoMemory),
         }
         self.put(to, copy, steps);
         Ok(copy)

@@ -219,7 +219,9 @@ impl LinkedForest {
     /// The laws of the forest, for proofs.
     pub fn laws(&self)
         ensures { IsLawful self.now.forest }
-    {}
+    {
+        let _links = &self.links;
+    }
 
     #[tactic(auto, using(crate::proofs::Told::node_row, crate::proofs::Told::kind_told))]
     pub fn kind(&self, node: u32) -> u8
