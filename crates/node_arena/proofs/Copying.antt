@@ -2,11 +2,11 @@
 use Rattle.std.proofs.Common.{◌≡◌, sym, ◌∙◌, ap, subst, ℕ, ◌-◌, ◌<◌, ◌≤◌, Option, None, length, arith}
 use Rattle.type_defs.specs.Fields.{scalar_count}
 use Rattle.node_arena.specs.declared.copies.Mark.{Mark}
-use Rattle.node_arena.specs.Forest.{Linked, linked_of, make_of, node_at, put_of}
-use Rattle.node_arena.specs.Fronts.{IsCopied, IsFront, front}
+use Rattle.node_arena.specs.Forest.{IsRoot, Linked, linked_of, make_of, node_at, put_of}
+use Rattle.node_arena.specs.Fronts.{IsCopied, IsFront, IsGrown, front}
 use Rattle.node_arena.specs.Payload.{Said, with_copy}
 use Rattle.node_arena.specs.Reads.{base_at, kind_at}
-use Rattle.node_arena.specs.Store.{IsStore, Store, changed, copied_in, single_count, store_of}
+use Rattle.node_arena.specs.Store.{IsStore, Store, changed, copied_in, reserved, single_count, store_of}
 use Rattle.node_arena.proofs.Behind.{front_put, front_row}
 use Rattle.node_arena.proofs.Fronts.{take_within}
 use Rattle.node_arena.proofs.Roots.{base_put, base_row, copied_put, copied_row}
@@ -34,3 +34,28 @@ put_row m A B C node to copy w number row free le filled =
       base = subst (λ z. m.slots ≤ z) (sym (base_put B C to copy filled free within)) (base_row m A B node copy row number w);
       front = front_put m B C to copy filled free le (omega arith) ∙ front_row m A B node row w;
     }
+
+-- What grows with each copy.
+pub grown_same : (A : Store) → IsGrown A A
+grown_same A = record { nodes = omega arith; places = omega arith; roots = λ i lt r. r }
+
+pub grown_copy : (A B : Store) (j : ℕ) → IsCopied A B j → IsGrown A B
+grown_copy A B j w =
+    let number = w.number in
+    let within = w.within in
+    record { nodes = omega arith; places = w.places; roots = w.roots }
+
+pub copied_grown : (A B C : Store) (j : ℕ) → IsCopied A B j → IsGrown B C → IsCopied A C j
+copied_grown A B C j w v =
+    let number = w.number in
+    let within = w.within in
+    let places = w.places in
+    let nodes = v.nodes in
+    let more = v.places in
+    record { number = number; within = omega arith; places = omega arith; roots = λ i lt r. v.roots i (omega arith) (w.roots i lt r) }
+
+pub root_grown : (A B C : Store) (j : ℕ) → IsCopied A B j → IsGrown B C → IsRoot B.forest j → IsRoot C.forest j
+root_grown A B C j w v r = v.roots j w.within r
+
+pub reserved_so : (A B : Store) (n : ℕ) → B ≡ reserved A n → B ≡ reserved A B.spare
+reserved_so A B n e = e ∙ ap (reserved A) (sym (ap (λ (z : Store). z.spare) e))

@@ -91,20 +91,6 @@ copied_places A B C j w e le =
       roots = λ i lt r. root_same B.forest C.forest i e (w.roots i lt r);
     }
 
--- more was made since
-pub copied_more : (A B C : Store) (j k : ℕ) → IsCopied A B j → IsCopied B C k → IsCopied A C j
-copied_more A B C j k w v =
-    let a = w.number in
-    let b = w.within in
-    let c = w.places in
-    let d = v.number in
-    let e = v.within in
-    let f = v.places in
-    record { number = a; within = omega arith; places = omega arith; roots = λ i lt r. v.roots i (omega arith) (w.roots i lt r) }
-
-pub root_more : (B C : Store) (j k : ℕ) → IsCopied B C k → j < length B.forest.nodes → IsRoot B.forest j → IsRoot C.forest j
-root_more B C j k v lt r = v.roots j lt r
-
 -- Roots behind a mark.
 pub root_behind : (m : Mark) (A B : Store) (j : ℕ) → IsFront m (front m A) → IsCopied A B j → IsRoot B.forest j → IsRootBehind m B.forest j
 root_behind m A B j w c r =

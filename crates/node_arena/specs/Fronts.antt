@@ -76,3 +76,9 @@ pub record IsCopied (A B : Store) (j : ℕ) : Type 0 where
   pub within : j < length B.forest.nodes
   pub places : length A.forest.places ≤ length B.forest.places
   pub roots : (i : ℕ) → i < length A.forest.nodes → IsRoot A.forest i → IsRoot B.forest i
+
+-- there are no fewer nodes and places, and roots are roots
+pub record IsGrown (A B : Store) : Type 0 where
+  pub nodes : length A.forest.nodes ≤ length B.forest.nodes
+  pub places : length A.forest.places ≤ length B.forest.places
+  pub roots : (i : ℕ) → i < length A.forest.nodes → IsRoot A.forest i → IsRoot B.forest i

@@ -4,7 +4,7 @@
 ghost use Rattle.std.specs.Prelude.{◌≡◌, ◌≢◌, ◌+◌, ◌<◌, ◌≤◌, true, None, Some, Err, All, length, IfOk, IfSome, OnOk, OnErr};
 ghost use Rattle.type_defs.specs.Fields.{is_list_at};
 ghost use Rattle.node_arena.specs.Forest.{IsRoot};
-ghost use Rattle.node_arena.specs.Fronts.{Grows, IsCopied, IsFront, IsLastIn, IsLonger, IsNewRoot, IsRootBehind, MayGoBefore, front};
+ghost use Rattle.node_arena.specs.Fronts.{Grows, IsCopied, IsFront, IsGrown, IsLastIn, IsLonger, IsNewRoot, IsRootBehind, MayGoBefore, front};
 ghost use Rattle.node_arena.specs.Reads.{base_at, kind_at};
 ghost use Rattle.node_arena.specs.Store.{copied_in, reserved};
 
@@ -195,15 +195,42 @@ impl Arena {
         ensures spare { mark.spare ≤ self.new.spare }
     {
         for slot in 0..MOST_SLOTS {
-            let first = self.slot_first(node, slot);
-            if is_list(self.kind(copy), slot) {
-                self.copy_list(first, copy, slot, mark, steps)?;
-            } else if let Some(from) = first {
-                if let Some(to) = self.slot_first(copy, slot) {
-                    self.copy_name(from, to, mark);
-                }
-            }
+            self.copy_slot(node, copy, slot, mark, steps)?;
         }
+        Ok(())
+    }
+
+    /// Gives a slot of a new node as many places as the slot of another has, with their names.
+    #[tactic(auto, using(crate::proofs::Behind::front_kept))]
+    fn copy_slot<L: Ledger>(
+        &mut self,
+        node: NodeId,
+        copy: NodeId,
+        slot: u8,
+        mark: Mark,
+        steps: &mut Steps<L>,
+    ) -> Result<(), ArenaFault>
+        requires node { node < length self.old.forest.nodes }
+        requires copy { copy < length self.old.forest.nodes }
+        requires new { mark.slots ≤ base_at self.old.forest copy }
+        requires front { IsFront mark (front mark self.old) }
+        requires spare { mark.spare ≤ self.old.spare }
+        ensures nodes { OnOk result (self.new.forest.nodes ≡ self.old.forest.nodes) }
+        ensures places { OnOk result (length self.old.forest.places ≤ length self.new.forest.places) }
+        ensures front { front mark self.new ≡ front mark self.old }
+        ensures spare { mark.spare ≤ self.new.spare }
+    {
+        let first = self.slot_first(node, slot);
+        if is_list(self.kind(copy), slot) {
+            return self.copy_list(first, copy, slot, mark, steps);
+        }
+        let Some(from) = first else {
+            return Ok(());
+        };
+        let Some(to) = self.slot_first(copy, slot) else {
+            return Ok(());
+        };
+        self.copy_name(from, to, mark);
         Ok(())
     }
 
@@ -265,8 +292,34 @@ impl Arena {
         Ok(copy)
     }
 
+    /// A copy of what stands in a place comes into a new one.
+    #[tactic(auto, using(crate::proofs::Copying::grown_copy, crate::proofs::Copying::grown_same))]
+    fn copy_child<L: Ledger>(
+        &mut self,
+        place: PlaceId,
+        new: PlaceId,
+        mark: Mark,
+        steps: &mut Steps<L>,
+    ) -> Result<(), ArenaFault>
+        requires place { place < length self.old.forest.places }
+        requires new { new < length self.old.forest.places }
+        requires front { IsFront mark (front mark self.old) }
+        requires spare { mark.spare ≤ self.old.spare }
+        ensures grown { OnOk result (IsGrown self.old self.new) }
+        ensures front { front mark self.new ≡ front mark self.old }
+        ensures spare { mark.spare ≤ self.new.spare }
+    {
+        let Some(child) = self.node_at(place) else {
+            return Ok(());
+        };
+        match self.copy_into(child, Some(new), mark, steps) {
+            Ok(_) => Ok(()),
+            Err(fault) => Err(fault),
+        }
+    }
+
     /// A copy of a node with all that it holds, as new rows.
-    #[tactic(auto, using(crate::proofs::Behind::front_kept, crate::proofs::Roots::copied_more, crate::proofs::Roots::root_more))]
+    #[tactic(auto, using(crate::proofs::Behind::front_kept, crate::proofs::Copying::copied_grown, crate::proofs::Copying::root_grown))]
     fn copy_below<L: Ledger>(
         &mut self,
         node: NodeId,
@@ -291,9 +344,7 @@ impl Arena {
             let Some(new) = to else {
                 return Ok(copy);
             };
-            if let Some(child) = self.node_at(place) {
-                self.copy_into(child, Some(new), mark, steps)?;
-            }
+            self.copy_child(place, new, mark, steps)?;
             from = self.place_below(place, node);
             to = self.place_below(new, copy);
         }
@@ -354,6 +405,7 @@ impl Arena {
     }
 
     /// Takes memory for copies of these nodes beside what is promised.
+    #[tactic(auto, using(crate::proofs::Copying::reserved_so))]
     fn reserve_for(&mut self, nodes: &[NodeId]) -> Result<(), ArenaFault>
         requires nodes { All (λ j. j < length self.old.forest.nodes) nodes.now }
         ensures ok { OnOk result (self.new ≡ reserved self.old self.new.spare) }
