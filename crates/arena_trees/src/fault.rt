@@ -1,5 +1,6 @@
 //! Why a tree is not unloaded.
 
+use std::alloc::AllocError;
 use tree_core::Address;
 
 /// Why a tree is not unloaded.
@@ -10,4 +11,15 @@ pub enum UnloadFault {
     /// The place is empty.
     Empty,
     NoMemory,
+}
+
+impl From<AllocError> for UnloadFault {
+    ghost use Rattle.std.specs.Prelude.{◌≡◌};
+    ghost use Rattle.arena_trees.specs.declared.fault.UnloadFault.TheVariants.{NoMemory};
+
+    ghost from_gives = { λ _ f. f ≡ NoMemory };
+
+    fn from(_: AllocError) -> UnloadFault {
+        UnloadFault::NoMemory
+    }
 }

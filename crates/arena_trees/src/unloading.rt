@@ -9,20 +9,12 @@ use crate::fault::UnloadFault;
 use crate::saying::scalars_of;
 use node_arena::{Arena, NodeId, PlaceId, copy_comments};
 use sqlite_items::{Boxed, Items};
-use std::alloc::{AllocError, Global};
+use std::alloc::Global;
 use tree_core::{Address, Place, Slot, Steps32, Tree};
 use type_defs::{is_list, slot_count};
 
 /// The greatest depth of a node that is unloaded, the first node having depth 1.
 pub const MOST_DEPTH: u32 = 1000;
-
-impl From<AllocError> for UnloadFault {
-    ghost from_gives = { λ _ f. f ≡ UnloadFault.NoMemory };
-
-    fn from(_: AllocError) -> UnloadFault {
-        UnloadFault::NoMemory
-    }
-}
 
 /// The node in a place with all that it holds, with its numbers and the names of its places.
 pub fn unload(alloc: Global, arena: &Arena, root: PlaceId) -> Result<Tree, UnloadFault>
