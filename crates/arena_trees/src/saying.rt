@@ -1,8 +1,8 @@
 //! What a node says: scalars, comments and its number.
 
-ghost use Rattle.std.specs.Prelude.{◌≡◌, ◌<◌, ◌≤◌, length, IfOk};
+ghost use Rattle.std.specs.Prelude.{◌≡◌, ◌<◌, length};
 
-use node_arena::{Arena, ArenaFault, NodeId, copy_comments, copy_scalar};
+use node_arena::{Arena, NodeId, copy_comments, copy_scalar};
 use std::alloc::{AllocError, Global};
 use tree_core::{Scalars, Tree};
 use type_defs::scalar_count;
