@@ -10,7 +10,7 @@ use Rattle.node_arena.specs.Reads.{owner_at, owner_in, place_at, place_in, slot_
 climbs_more : (n : ℕ) (F : Forest) (node place : ℕ) → 0 < n → climbs n F node place ≡ climb_by F node (climbs (n - 1) F node) (owner_at F place)
 unfolding climbs
 climbs_more zero F node place h = absurd (omega arith)
-climbs_more (suc n) F node place h = refl
+climbs_more (suc n) F node place h = let less : n ≡ suc n - 1 = omega arith in ap (λ z. climb_by F node (climbs z F node) (owner_at F place)) less
 
 pub climb_end : (n : ℕ) (F : Forest) (node place : ℕ) → n ≡ 0 → climbs n F node place ≡ true
 unfolding climbs
