@@ -1,9 +1,9 @@
 -- How many nodes and places there are after a change.
-use Rattle.std.proofs.Common.{◌≡◌, ◌≢◌, ◌∙◌, sym, ap, refl, ℕ, ◌+◌, ◌≤◌, List, [], ◌∷◌, ◌++◌, length, Option, Some, None, arith, length-append}
+use Rattle.std.proofs.Common.{◌≡◌, ◌≢◌, ◌∙◌, refl, ℕ, ◌+◌, ◌≤◌, List, [], ◌∷◌, length, Option, Some, None, arith, length-append}
 use Rattle.type_defs.specs.Fields.{lists_at}
 use Rattle.node_arena.specs.Rows.{new_node, standing_at}
 use Rattle.node_arena.specs.Lists.{insert_after}
-use Rattle.node_arena.specs.Forest.{Forest, at_slot, clear_of, cleared, empty_place, given, grown, holding, insert_after_of, insert_first_of, list_at, make_of, new_places, node_at, put_of}
+use Rattle.node_arena.specs.Forest.{Forest, at_slot, clear_of, cleared, empty_place, grown, holding, insert_after_of, insert_first_of, list_at, make_of, new_places, node_at, put_of}
 use Rattle.node_arena.proofs.Edits.{length_edit}
 
 nodes_cleared : (F : Forest) (p : ℕ) (o : Option ℕ) → length (cleared F p o).nodes ≡ length F.nodes

@@ -1,10 +1,10 @@
 -- The greatest height with one more place or slot.
-use Rattle.std.proofs.Common.{◌≡◌, ◌∙◌, sym, ap, subst, refl, ℕ, ◌+◌, ◌≤◌, max, List, [], ◌∷◌, ◌++◌, map, Option, Some, None, arith}
+use Rattle.std.proofs.Common.{◌≡◌, ◌∙◌, ap, ℕ, ◌≤◌, max, List, [], ◌∷◌, ◌++◌, map, Some, None, arith}
 use Rattle.std.proofs.lemmas.List.{map-append}
 use Rattle.tree_core.specs.declared.tree.Slot.{Slot}
 use Rattle.tree_core.specs.declared.tree.Place.{Place}
-use Rattle.tree_core.specs.Height.{height, places_height, slots_height}
-use Rattle.tree_core.specs.View.{Row, Spot, place_view, places_of, slot_view, slots_of, spot}
+use Rattle.tree_core.specs.Height.{places_height, slots_height}
+use Rattle.tree_core.specs.View.{Row, Spot, place_view, places_of, slot_view, slots_of}
 
 spots_more : (xs : List Spot) (p : Spot) → places_height (places_of (xs ++ p ∷ [])) ≡ max (places_height (places_of xs)) (places_height (places_of (p ∷ [])))
 spots_more [] p = omega arith

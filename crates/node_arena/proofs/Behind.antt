@@ -1,6 +1,6 @@
 -- Each step behind a mark leaves the rows before it.
-use Rattle.std.proofs.Common.{◌≡◌, ◌≢◌, inl, inr, ⊎_elim, sym, ◌∙◌, ap, subst, refl, ℕ, zero, suc, All, ◌+◌, ◌-◌, ◌*◌, ◌<◌, ◌≤◌, ◌^◌, Bool, true, false, List, [], ◌∷◌, ◌++◌, length, map, take, Option, Some, None, slice_get, slice_set, replicate, arith, length-append, if◌then◌else◌}
-use Rattle.std.proofs.lemmas.List.{length-take, take-append-le, take-set-le}
+use Rattle.std.proofs.Common.{◌≡◌, sym, ◌∙◌, ap, subst, refl, ℕ, All, ◌<◌, ◌≤◌, Bool, true, false, List, [], ◌∷◌, ◌++◌, length, take, Option, Some, None, slice_get, replicate, arith, length-append, if◌then◌else◌}
+use Rattle.std.proofs.lemmas.List.{take-append-le, take-set-le}
 use Rattle.std.proofs.Math.Seq.{take-length}
 use Rattle.tree_core.specs.declared.tree.PlaceName.{PlaceName}
 use Rattle.tree_core.specs.declared.scalars.Scalar.{Scalar}
@@ -10,11 +10,11 @@ use Rattle.node_arena.specs.declared.links.Node.{Node}
 use Rattle.node_arena.specs.declared.payload.Facts.{Facts}
 use Rattle.node_arena.specs.Rows.{edit, new_node, standing_at}
 use Rattle.node_arena.specs.Lists.{insert_after}
-use Rattle.node_arena.specs.Forest.{Forest, IsLawful, IsListSlot, IsRoot, Linked, Place, Slot, at_slot, cleared, empty_place, fill_of, front_forest, given, grown, holding, insert_after_of, insert_first_of, linked_of, list_at, list_if, list_of, make_of, new_places, new_slots, node_at, owner_of, put_of, slot_at, with_kids}
+use Rattle.node_arena.specs.Forest.{Forest, IsLawful, IsListSlot, IsRoot, Linked, Place, Slot, at_slot, cleared, empty_place, fill_of, front_forest, given, grown, holding, insert_after_of, insert_first_of, linked_of, list_at, list_if, list_of, new_places, new_slots, node_at, owner_of, put_of, slot_at, with_kids}
 use Rattle.node_arena.specs.Payload.{Said, said_of, copied_facts, scalars_from, first_in}
-use Rattle.node_arena.specs.Fronts.{Grows, HasFewSlots, IsFront, IsLastIn, IsLonger, IsNewRoot, IsRootBehind, MayGoBefore, front}
+use Rattle.node_arena.specs.Fronts.{Grows, HasFewSlots, IsFront, IsLonger, IsNewRoot, IsRootBehind, MayGoBefore, front}
 use Rattle.node_arena.specs.Reads.{kind_at}
-use Rattle.node_arena.specs.Store.{IsStore, Store, changed, copied_as, copied_in, placed, reserved, store_of, with_name, single_count}
+use Rattle.node_arena.specs.Store.{IsStore, Store, changed, copied_in, placed, reserved, store_of, with_name, single_count}
 use Rattle.node_arena.proofs.Edits.{edit_here}
 use Rattle.node_arena.proofs.Pushes.{push_new}
 use Rattle.node_arena.proofs.Fronts.{goes_before, take_edit, take_within}

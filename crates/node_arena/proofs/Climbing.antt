@@ -1,9 +1,8 @@
 -- A node that is not met on the way up from a place does not hold it.
-use Rattle.std.proofs.Common.{◌≡◌, ◌≢◌, ◌⊎◌, inl, inr, ⊎_elim, sym, ◌∙◌, ap, subst, refl, ℕ, zero, suc, ◌+◌, ◌-◌, ◌<◌, ◌≤◌, Bool, true, false, List, length, Option, Some, None, slice_get, arith, if◌then◌else◌, ◌==◌}
+use Rattle.std.proofs.Common.{◌≡◌, ◌≢◌, ◌⊎◌, inl, inr, ⊎_elim, sym, ◌∙◌, ap, subst, refl, ℕ, zero, suc, ◌+◌, ◌-◌, ◌<◌, Bool, true, false, length, Some, None, arith, if◌then◌else◌, ◌==◌}
 use Rattle.std.proofs.lemmas.Bool.Decides.{eqb_tells}
-use Rattle.node_arena.specs.declared.links.Node.{Node}
 use Rattle.node_arena.specs.Climbs.{climbs, climb_by, climb_on}
-use Rattle.node_arena.specs.Forest.{Forest, Holds, IsBelow, IsLawful, IsPlaceOf, IsRoot, IsRoot_row, MayGo, Under, itself, below, slot_at, owner_of}
+use Rattle.node_arena.specs.Forest.{Forest, Holds, IsBelow, IsLawful, IsPlaceOf, IsRoot, IsRoot_row, MayGo, Under, itself, below, owner_of}
 use Rattle.node_arena.proofs.Pushes.{item_at}
 use Rattle.node_arena.specs.Reads.{owner_at, owner_in, place_at, place_in, slot_node}
 

@@ -1,5 +1,5 @@
 -- A copied row, as the method makes it.
-use Rattle.std.proofs.Common.{◌≡◌, sym, ◌∙◌, ap, subst, ℕ, ◌-◌, ◌<◌, ◌≤◌, Option, None, length, arith}
+use Rattle.std.proofs.Common.{◌≡◌, sym, ◌∙◌, ap, subst, ℕ, ◌-◌, ◌<◌, ◌≤◌, None, length, arith}
 use Rattle.type_defs.specs.Fields.{scalar_count}
 use Rattle.node_arena.specs.declared.copies.Mark.{Mark}
 use Rattle.node_arena.specs.Forest.{IsRoot, Linked, linked_of, make_of, node_at, put_of}

@@ -1,24 +1,16 @@
 -- What is made behind a mark leaves the rows before it, and these can stand alone again.
-use Rattle.std.proofs.Common.{◌≡◌, ◌≢◌, inl, inr, ⊎_elim, sym, ◌∙◌, ap, subst, refl, ℕ, zero, suc, ◌+◌, ◌-◌, ◌*◌, ◌<◌, ◌≤◌, ◌^◌, min, Bool, true, false, List, [], ◌∷◌, ◌++◌, length, map, take, Option, Some, None, slice_get, slice_set, replicate, arith, length-append}
-use Rattle.std.proofs.lemmas.List.{length-map, length-take, length-take-le, take-append-le, take-set-le}
-use Rattle.std.proofs.lemmas.Option.{slice_get_within}
+use Rattle.std.proofs.Common.{◌≡◌, inl, inr, sym, ◌∙◌, ap, subst, refl, ℕ, zero, suc, ◌*◌, ◌<◌, ◌≤◌, List, [], ◌∷◌, ◌++◌, length, map, take, Option, Some, None, slice_get, arith}
+use Rattle.std.proofs.lemmas.List.{length-map, length-take, take-set-le}
 use Rattle.std.proofs.Math.Seq.{take-append_seam}
-use Rattle.tree_core.specs.declared.tree.PlaceName.{PlaceName}
-use Rattle.type_defs.specs.Fields.{lists_at, scalar_count}
-use Rattle.node_arena.specs.declared.copies.Mark.{Mark}
+use Rattle.type_defs.specs.Fields.{lists_at}
 use Rattle.node_arena.specs.declared.links.Node.{Node}
 use Rattle.node_arena.specs.declared.links.PlaceRow.{PlaceRow}
-use Rattle.node_arena.specs.declared.links.SlotRow.{SlotRow}
-use Rattle.node_arena.specs.declared.payload.Facts.{Facts}
 use Rattle.node_arena.specs.Rows.{Rows, Table, edit, edit_row, front_rows, new_node, table_of}
-use Rattle.node_arena.specs.Lists.{Among, head_or, insert_after}
-use Rattle.node_arena.specs.Forest.{Chain, Forest, IsBelow, IsLawful, IsListSlot, IsPlaceOf, IsRoot, IsTable, IsRoot_row, Holds, Linked, MayGo, Place, Slot, Stands, Under, itself, below, core_of, forest_of, front_forest, grown, insert_after_of, insert_first_of, linked_of, list_at, list_of, list_if, make_of, new_slots, new_places, node_at, cleared, place_of, put_of, reseated, owner_of, empty_place, with_kids}
-use Rattle.node_arena.specs.Fronts.{Grows, IsFront, IsLastIn, HasFewSlots, IsNewRoot, IsRootBehind, MayGoBefore, front}
-use Rattle.node_arena.specs.Reads.{kind_at}
-use Rattle.node_arena.specs.Store.{Store, changed, copied_as, copied_in, make_in, placed, with_name, single_count}
-use Rattle.node_arena.proofs.Edits.{edit_here}
+use Rattle.node_arena.specs.Lists.{Among}
+use Rattle.node_arena.specs.Forest.{Chain, Forest, IsBelow, IsLawful, IsPlaceOf, IsRoot, IsTable, IsRoot_row, Linked, Place, Slot, Stands, Under, itself, below, core_of, forest_of, front_forest, linked_of, make_of, new_slots, new_places, place_of}
+use Rattle.node_arena.specs.Fronts.{HasFewSlots, MayGoBefore}
 use Rattle.node_arena.proofs.Pushes.{push_new}
-use Rattle.node_arena.proofs.Standing.{Keeps, table_from}
+use Rattle.node_arena.proofs.Standing.{table_from}
 use Rattle.node_arena.proofs.Methods.{Shows, Ends_as}
 
 -- The first items of lists.

@@ -1,11 +1,11 @@
 -- New nodes behind a mark, and roots that stay roots.
-use Rattle.std.proofs.Common.{◌≡◌, ◌≢◌, ⊎_elim, inl, inr, sym, ◌∙◌, ap, subst, refl, ℕ, zero, suc, All, ◌+◌, ◌<◌, ◌≤◌, List, [], ◌∷◌, ◌++◌, length, Option, Some, None, slice_get, arith, length-append}
+use Rattle.std.proofs.Common.{◌≡◌, sym, ◌∙◌, ap, subst, refl, ℕ, zero, suc, All, ◌<◌, ◌≤◌, List, [], ◌∷◌, ◌++◌, length, Option, Some, None, slice_get, arith, length-append}
 use Rattle.std.proofs.lemmas.List.Elements.{All-append}
 use Rattle.type_defs.specs.Fields.{lists_at}
 use Rattle.node_arena.specs.declared.copies.Mark.{Mark}
 use Rattle.node_arena.specs.declared.links.Node.{Node}
 use Rattle.node_arena.specs.Rows.{edit, new_node, standing_at}
-use Rattle.node_arena.specs.Forest.{Forest, IsRoot, IsRoot_row, clear_of, cleared, fill_of, holding, make_of, new_places, node_at, put_of}
+use Rattle.node_arena.specs.Forest.{Forest, IsRoot, IsRoot_row, cleared, fill_of, holding, make_of, new_places, node_at, put_of}
 use Rattle.node_arena.specs.Fronts.{IsCopied, IsFront, IsRootBehind, front}
 use Rattle.node_arena.specs.Reads.{base_at, base_in, kind_at}
 use Rattle.node_arena.specs.Store.{Store, changed, copied_in}

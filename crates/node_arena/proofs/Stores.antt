@@ -1,5 +1,5 @@
 -- The arena's rows beside the forest keep up with it.
-use Rattle.std.proofs.Common.{◌≡◌, inl, inr, ⊎_elim, sym, ◌∙◌, ap, subst, refl, ℕ, zero, suc, ◌+◌, ◌-◌, ◌*◌, ◌<◌, ◌≤◌, ◌^◌, Bool, true, false, List, [], ◌∷◌, ◌++◌, length, map, max, count_by, not, cond, Option, Some, None, slice_get, slice_set, replicate, drop, take, arith, length-append, length-drop, length-set, zero-add}
+use Rattle.std.proofs.Common.{◌≡◌, ⊎_elim, sym, ◌∙◌, ap, subst, refl, ℕ, suc, ◌+◌, ◌-◌, ◌<◌, ◌≤◌, ◌^◌, Bool, true, false, List, [], ◌∷◌, ◌++◌, length, map, max, count_by, not, cond, Option, Some, None, slice_get, slice_set, replicate, drop, arith, length-append, length-drop, length-set, zero-add}
 use Rattle.std.proofs.lemmas.List.{length-map, length-replicate, length-take}
 use Rattle.std.proofs.lemmas.List.Sums.{sum_by-cons}
 use Rattle.std.proofs.lemmas.Option.{slice_get_within}
@@ -9,14 +9,13 @@ use Rattle.tree_core.specs.declared.comment.Comment.{Comment}
 use Rattle.tree_core.specs.declared.tree.PlaceName.{PlaceName}
 use Rattle.type_defs.specs.Fields.{lists_at, scalar_count}
 use Rattle.type_defs.proofs.FieldTable.{scalar_count_few}
-use Rattle.node_arena.specs.declared.links.Node.{Node}
 use Rattle.node_arena.specs.declared.payload.Facts.{Facts}
 use Rattle.node_arena.specs.Rows.{edit, new_node, standing_at}
-use Rattle.node_arena.specs.Lists.{without, insert_after, insert_before}
-use Rattle.node_arena.specs.Forest.{Forest, Place, Linked, linked_of, make_of, new_places, empty_place, with_kids, holding, reseated, cleared, clear_of, fill_of, put_of, grown, given, at_slot, left, list_at, node_at, insert_first_of, insert_after_of, insert_before_of, unlink_of}
+use Rattle.node_arena.specs.Lists.{insert_after, insert_before}
+use Rattle.node_arena.specs.Forest.{Forest, Place, Linked, linked_of, make_of, new_places, empty_place, holding, reseated, cleared, clear_of, put_of, grown, given, at_slot, left, list_at, node_at, insert_first_of, insert_after_of, insert_before_of, unlink_of}
 use Rattle.node_arena.specs.Payload.{Said, said_of, no_facts, with_node, with_copy, with_place, copied_facts, scalars_from, first_in, scalar_number, commented, coming_from}
 use Rattle.node_arena.specs.Reads.{kind_at, kind_in}
-use Rattle.node_arena.specs.Store.{Store, store_of, kind_of, IsStore, single_count}
+use Rattle.node_arena.specs.Store.{kind_of, IsStore, single_count}
 use Rattle.node_arena.proofs.Edits.{length_edit, was_kept}
 use Rattle.node_arena.proofs.Pushes.{item_at, mapped, push_cases, map_append, map_edit_kept}
 

@@ -1,5 +1,5 @@
 -- The first rows of an arena, which what is made behind them leaves.
-use Rattle.std.specs.Prelude.{◌≡◌, ℕ, ◌+◌, ◌*◌, ◌<◌, ◌≤◌, List, length, map, take, Option, Some, None, slice_get}
+use Rattle.std.specs.Prelude.{◌≡◌, ℕ, ◌+◌, ◌*◌, ◌<◌, ◌≤◌, length, map, take, Option, Some, None, slice_get}
 use Rattle.type_defs.specs.Fields.{scalar_count}
 use Rattle.node_arena.specs.declared.copies.Mark.{Mark}
 use Rattle.node_arena.specs.declared.payload.Facts.{Facts}

@@ -1,5 +1,4 @@
-use Rattle.std.proofs.Common.{◌≡◌, ◌<◌, ◌≤◌, ℕ, length, All}
-use Rattle.node_arena.specs.Forest.{IsRoot}
+use Rattle.std.proofs.Common.{◌≡◌, ◌≤◌, length, All}
 use Rattle.node_arena.specs.Fronts.{IsRootBehind, front}
 use Rattle.node_arena.proofs.arena.Arena.copy_each.Given as goal
 

@@ -1,4 +1,4 @@
-use Rattle.std.proofs.Common.{◌≡◌, ◌<◌, ◌≤◌, length}
+use Rattle.std.proofs.Common.{◌≡◌, ◌≤◌, length}
 use Rattle.node_arena.specs.Fronts.{front}
 use Rattle.node_arena.proofs.arena.Arena.copy_places.Given as goal
 

@@ -1,4 +1,4 @@
-use Rattle.std.proofs.Common.{◌≤◌, ◌^◌, ◌*◌, ◌+◌, length}
+use Rattle.std.proofs.Common.{◌≤◌, ◌^◌, ◌+◌}
 use Rattle.node_arena.proofs.arena.Arena.room_for.Given as goal
 
 abbrev pub invariant-loop-at : goal.invariant-loop-at
