@@ -1,3 +1,7 @@
+//! Copies in a small arena.
+
+ghost use Rattle.std.specs.Prelude.{◌≡◌, ◌<◌};
+
 use crate::{Arena, ArenaFault, Steps};
 use std::alloc::Global;
 use std::marker::Brand;
