@@ -1,15 +1,14 @@
 -- A new node with its slots.
-use Rattle.std.proofs.Common.{◌≡◌, ◌≢◌, ◌⊎◌, inl, inr, ⊎_elim, sym, ◌∙◌, ap, subst, refl, ℕ, zero, suc, ◌+◌, ◌*◌, ◌<◌, ◌≤◌, ◌^◌, Bool, true, false, List, [], ◌∷◌, ◌++◌, length, map, Option, Some, None, slice_get, arith, length-append}
+use Rattle.std.proofs.Common.{◌≡◌, ◌⊎◌, inl, inr, ⊎_elim, sym, ◌∙◌, ap, subst, refl, ℕ, zero, suc, ◌+◌, ◌<◌, ◌≤◌, ◌^◌, Bool, true, false, List, [], ◌∷◌, ◌++◌, length, map, Some, None, slice_get, arith, length-append}
 use Rattle.std.proofs.lemmas.List.{length-map}
 use Rattle.std.proofs.lemmas.Option.{slice_get_within}
 use Rattle.type_defs.specs.Fields.{Field, slots_at, lists_at, is_list_at, list_some}
 use Rattle.type_defs.proofs.FieldTable.{slots_at_few}
 use Rattle.node_arena.specs.declared.links.Node.{Node}
-use Rattle.node_arena.specs.declared.links.SlotRow.{SlotRow}
 use Rattle.node_arena.specs.declared.links.PlaceRow.{PlaceRow}
-use Rattle.node_arena.specs.Rows.{Rows, new_node, after_slot, slot_row, slot_rows, place_row, place_rows, made_rows, empty_row}
-use Rattle.node_arena.specs.Lists.{Among, Distinct, head_or}
-use Rattle.node_arena.specs.Forest.{Forest, Slot, Place, Chain, Stands, IsBelow, HasShape, HasSlot, HasBase, HasLists, IsOwned, IsOwner, HasOne, HasSeats, IsLawful, IsTable, IsRootPlace, core_of, place_of, forest_of, empty_place, new_slot, new_slots, new_place, new_places, make_of}
+use Rattle.node_arena.specs.Rows.{Rows, new_node, after_slot, slot_row, slot_rows, place_rows, made_rows, empty_row}
+use Rattle.node_arena.specs.Lists.{Among, Distinct}
+use Rattle.node_arena.specs.Forest.{Forest, Slot, Place, Chain, Stands, IsBelow, HasShape, HasLists, HasSeats, IsLawful, IsTable, core_of, place_of, forest_of, empty_place, new_slot, new_slots, new_places, make_of}
 use Rattle.node_arena.proofs.Pushes.{push_old, push_new, push_cases, append_old, append_new, append_cases, item_at, mapped, mapped_back, map_append}
 use Rattle.node_arena.proofs.Linking.{chain_frame, chain_row}
 use Rattle.node_arena.proofs.Endings.{ends_fewer}

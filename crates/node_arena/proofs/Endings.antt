@@ -1,9 +1,7 @@
 -- What is below nodes after a change, and that it ends.
-use Rattle.std.proofs.Common.{◌≡◌, ◌≢◌, ◌⊎◌, inl, inr, ⊎_elim, sym, ◌∙◌, ap, subst, refl, ℕ, List, [], ◌∷◌, ◌++◌, length, Option, Some, None, slice_get}
-use Rattle.node_arena.specs.declared.links.Node.{Node}
+use Rattle.std.proofs.Common.{◌≡◌, ◌⊎◌, inl, inr, ⊎_elim, sym, ◌∙◌, ap, subst, refl, ℕ, List, length, Option, Some, None}
 use Rattle.node_arena.specs.Lists.{without}
-use Rattle.node_arena.specs.Rows.{edit, standing_at}
-use Rattle.node_arena.specs.Forest.{Forest, Slot, Place, IsPlaceOf, IsBelow, Under, itself, below, Holds, Ends, ends, IsLawful, with_kids, holding, owned_by, reseated, grown, left, empty_place}
+use Rattle.node_arena.specs.Forest.{Forest, Slot, Place, IsPlaceOf, IsBelow, Under, itself, below, Holds, Ends, ends, with_kids, holding, owned_by, reseated, grown, left, empty_place}
 use Rattle.node_arena.proofs.Edits.{was, was_kept}
 use Rattle.node_arena.proofs.Pushes.{push_cases}
 

@@ -1,14 +1,13 @@
 -- A new place in a gap of a slot, and a place that leaves one: the rows, and the chains.
-use Rattle.std.proofs.Common.{◌≡◌, ◌≢◌, ◌⊎◌, inl, inr, ⊎_elim, sym, ◌∙◌, ap, subst, refl, ℕ, ◌<◌, List, [], ◌∷◌, ◌++◌, length, map, Option, Some, None, slice_get, arith}
-use Rattle.std.proofs.lemmas.Option.{slice_get_within}
+use Rattle.std.proofs.Common.{◌≡◌, ◌≢◌, ⊎_elim, sym, ◌∙◌, ap, subst, refl, ℕ, List, [], ◌∷◌, ◌++◌, length, map, Option, Some, None, slice_get}
 use Rattle.node_arena.specs.declared.links.SlotRow.{SlotRow}
 use Rattle.node_arena.specs.declared.links.PlaceRow.{PlaceRow}
-use Rattle.node_arena.specs.Rows.{Rows, rows_of, edit, starting, owned_row, before_row, after_row, between_row, with_place, left_written, right_written, linked_rows, bared, detached_rows, detached_row}
+use Rattle.node_arena.specs.Rows.{Rows, rows_of, edit, starting, before_row, after_row, between_row, with_place, left_written, right_written, linked_rows}
 use Rattle.node_arena.specs.Lists.{Among, Distinct, head_or, last_or}
-use Rattle.node_arena.specs.Forest.{IsLinked, Chain, Slot, Place, core_of, place_of, with_kids, owned_by}
+use Rattle.node_arena.specs.Forest.{Chain, place_of}
 use Rattle.node_arena.proofs.Edits.{edit_here, edit_away}
-use Rattle.node_arena.proofs.Pushes.{push_old, push_new, push_away, before_end, map_append, map_edit, map_edit_kept}
-use Rattle.node_arena.proofs.Splits.{IsGap, gap_distinct, gap_apart, gap_new}
+use Rattle.node_arena.proofs.Pushes.{push_old, push_new, push_away, before_end, map_append, map_edit_kept}
+use Rattle.node_arena.proofs.Splits.{IsGap}
 use Rattle.node_arena.proofs.Linking.{chain_frame, chain_row, chain_parts, chain_whole, last_among, head_among, parts_apart, among_front, among_back, IsRelinked, sides_kept}
 
 -- The two writes beside a gap, on the rows of slots and of places.

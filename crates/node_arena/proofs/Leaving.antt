@@ -1,8 +1,8 @@
 -- A place that leaves its slot: the rows, and the chains.
-use Rattle.std.proofs.Common.{◌≡◌, ◌≢◌, inr, ⊎_elim, sym, ◌∙◌, ap, subst, refl, ℕ, ◌<◌, List, [], ◌∷◌, ◌++◌, length, map, Option, Some, None, slice_get}
+use Rattle.std.proofs.Common.{◌≡◌, ◌≢◌, inr, ⊎_elim, sym, ◌∙◌, ap, subst, refl, ℕ, ◌<◌, List, ◌∷◌, ◌++◌, length, map, Option, Some, None, slice_get}
 use Rattle.std.proofs.lemmas.Option.{slice_get_within}
 use Rattle.node_arena.specs.declared.links.PlaceRow.{PlaceRow}
-use Rattle.node_arena.specs.Rows.{Rows, rows_of, edit, owned_row, before_row, after_row, left_written, right_written, bared, detached_rows, detached_row, HasLeft, HasRight, HasEnds, HasEnds_of}
+use Rattle.node_arena.specs.Rows.{Rows, rows_of, edit, owned_row, before_row, after_row, left_written, bared, detached_rows, detached_row, HasLeft, HasRight, HasEnds, HasEnds_of}
 use Rattle.node_arena.specs.Lists.{Among, Distinct, head_or, last_or}
 use Rattle.node_arena.specs.Forest.{Chain, place_of, owned_by}
 use Rattle.node_arena.proofs.Edits.{edit_away}

@@ -1,6 +1,10 @@
+pub mod Behind
 pub mod Births
+pub mod Climbing
+pub mod Copying
 pub mod Edits
 pub mod Endings
+pub mod Fronts
 pub mod Gaps
 pub mod Leaving
 pub mod Linking
@@ -9,6 +13,7 @@ pub mod Methods
 pub mod Owners
 pub mod Pushes
 pub mod Repeats
+pub mod Roots
 pub mod Seats
 pub mod Shapes
 pub mod Splits

@@ -1,13 +1,13 @@
 -- The changes of the forest, as its methods say them.
-use Rattle.std.proofs.Common.{◌≡◌, ◌≢◌, ⊎_elim, sym, ◌∙◌, ap, subst, refl, ℕ, ◌+◌, ◌-◌, ◌<◌, ◌≤◌, ◌^◌, Bool, true, false, List, [], ◌∷◌, ◌++◌, length, Option, Some, None, slice_get, if◌then◌else◌, arith, length-append}
+use Rattle.std.proofs.Common.{◌≡◌, ⊎_elim, sym, ◌∙◌, ap, subst, refl, ℕ, ◌-◌, ◌<◌, ◌≤◌, ◌^◌, Bool, true, false, List, [], ◌∷◌, length, Option, Some, None, slice_get, if◌then◌else◌, arith, length-append}
 use Rattle.std.proofs.lemmas.Option.{slice_get_within}
 use Rattle.node_arena.specs.declared.links.Node.{Node}
 use Rattle.node_arena.specs.declared.links.PlaceRow.{PlaceRow}
 use Rattle.node_arena.specs.declared.links.SlotRow.{SlotRow}
 use Rattle.node_arena.specs.Rows.{Rows, Table, table_of, edit, standing_at, node_in, left_alone, emptied_rows, seated_rows, given_rows, linked_rows, inserted_rows, detached_rows, made_rows, HasNodeRow, HasLeft, HasRight, HasEnds}
 use Rattle.node_arena.specs.Lists.{Among, Distinct, head_or, last_or, insert_after, insert_before, without}
-use Rattle.node_arena.specs.Forest.{Forest, Slot, Place, Linked, Chain, linked_of, forest_of, place_of, core_of, IsTable, IsRoot, IsRoot_row, Under, Holds, IsPlaceOf, MayGo, Joins, IsListSlot, node_at, node_of, slot_at, owner_of, list_at, list_of, list_if, with_kids, empty_place, holding, reseated, cleared, clear_of, fill_of, put_of, grown, given, at_slot, left, make_of, insert_after_of, insert_before_of, insert_first_of, unlink_of}
-use Rattle.node_arena.proofs.Edits.{was, was_kept, becomes, edit_here, length_edit}
+use Rattle.node_arena.specs.Forest.{Forest, Slot, Place, Linked, Chain, linked_of, forest_of, place_of, core_of, IsTable, IsRoot, IsRoot_row, Under, Holds, MayGo, Joins, IsListSlot, node_at, node_of, slot_at, owner_of, list_at, list_of, list_if, with_kids, empty_place, holding, reseated, cleared, clear_of, fill_of, put_of, grown, given, at_slot, left, make_of, insert_after_of, insert_before_of, insert_first_of, unlink_of}
+use Rattle.node_arena.proofs.Edits.{was_kept, becomes, edit_here, length_edit}
 use Rattle.node_arena.proofs.Pushes.{item_at, mapped, mapped_back, push_new, before_end}
 use Rattle.node_arena.proofs.Splits.{without_gap, after_gap, before_gap}
 use Rattle.node_arena.proofs.Linking.{chain_parts, chain_last, chain_head}

@@ -1,8 +1,8 @@
 -- Slots and their places: a new place in a gap, and a place that leaves.
 use Rattle.std.proofs.Common.{◌≡◌, ◌≢◌, ⊎_elim, sym, ◌∙◌, ap, subst, refl, ℕ, Bool, true, false, List, [], ◌∷◌, ◌++◌, length, Option, Some, None, slice_get}
 use Rattle.node_arena.specs.Rows.{edit}
-use Rattle.node_arena.specs.Lists.{Among, Distinct, without}
-use Rattle.node_arena.specs.Forest.{Slot, Place, HasLists, IsOwned, IsOwner, HasOne, with_kids, empty_place, holding, owned_by}
+use Rattle.node_arena.specs.Lists.{Among, Distinct}
+use Rattle.node_arena.specs.Forest.{Slot, Place, HasLists, HasOne, with_kids, empty_place, holding, owned_by}
 use Rattle.node_arena.proofs.Edits.{was, was_kept, becomes, becomes_kept, edit_here, edit_away}
 use Rattle.node_arena.proofs.Pushes.{push_old, push_new, push_cases, before_end}
 use Rattle.node_arena.proofs.Splits.{IsGap, gap_old, gap_new, gap_back, gap_distinct, gap_apart}

@@ -1,5 +1,5 @@
 -- Reads of a list after a push, and of lists that are mapped.
-use Rattle.std.proofs.Common.{◌≡◌, ◌≢◌, ◌⊎◌, inl, inr, ⊎_elim, sym, ◌∙◌, ap, refl, ℕ, zero, suc, ◌+◌, ◌<◌, List, [], ◌∷◌, ◌++◌, length, map, Option, Some, None, slice_get, slice_set, arith}
+use Rattle.std.proofs.Common.{◌≡◌, ◌≢◌, ◌⊎◌, inl, inr, ⊎_elim, sym, ◌∙◌, ap, refl, ℕ, zero, suc, ◌+◌, ◌<◌, List, [], ◌∷◌, ◌++◌, length, map, Option, Some, None, slice_get, arith}
 use Rattle.node_arena.specs.Rows.{edit, edit_row}
 
 pub push_old : {A : Type 0} → (xs : List A) (i : ℕ) (v x : A) → slice_get xs i ≡ Some x → slice_get (xs ++ v ∷ []) i ≡ Some x

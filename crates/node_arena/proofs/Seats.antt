@@ -1,8 +1,8 @@
 -- Where nodes stand: a node goes out of its place, a root comes into an empty one, places come and go.
-use Rattle.std.proofs.Common.{◌≡◌, ◌≢◌, ⊎_elim, sym, ◌∙◌, ap, subst, refl, ℕ, List, [], ◌∷◌, ◌++◌, Option, Some, None, slice_get}
+use Rattle.std.proofs.Common.{◌≡◌, ◌≢◌, ⊎_elim, sym, ◌∙◌, ap, refl, ℕ, List, [], ◌∷◌, ◌++◌, Option, Some, None, slice_get}
 use Rattle.node_arena.specs.declared.links.Node.{Node}
 use Rattle.node_arena.specs.Rows.{edit, standing_at}
-use Rattle.node_arena.specs.Forest.{Place, HasSeats, StandsAt, HasNode, IsRootPlace, holding, owned_by}
+use Rattle.node_arena.specs.Forest.{Place, HasSeats, IsRootPlace, holding, owned_by}
 use Rattle.node_arena.proofs.Edits.{was, was_kept, becomes, becomes_kept, edit_here, edit_away}
 use Rattle.node_arena.proofs.Pushes.{push_old, push_cases}
 

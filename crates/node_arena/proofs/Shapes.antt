@@ -1,6 +1,6 @@
 -- The form of nodes and slots, which no change of places or seats touches.
-use Rattle.std.proofs.Common.{◌≡◌, sym, ◌∙◌, ap, subst, refl, ℕ, ◌+◌, ◌<◌, Bool, List, length, Option, Some, slice_get}
-use Rattle.type_defs.specs.Fields.{lists_at, is_list_at}
+use Rattle.std.proofs.Common.{◌≡◌, sym, ◌∙◌, ap, subst, refl, ℕ, ◌+◌, ◌<◌, Bool, List, length, Option}
+use Rattle.type_defs.specs.Fields.{lists_at}
 use Rattle.node_arena.specs.declared.links.Node.{Node}
 use Rattle.node_arena.specs.Rows.{edit, standing_at}
 use Rattle.node_arena.specs.Forest.{Slot, HasShape, HasSlot, HasBase, with_kids}

@@ -1,17 +1,15 @@
 -- Changes of the table stand for changes of the forest.
-use Rattle.std.proofs.Common.{◌≡◌, ◌≢◌, inl, inr, ⊎_elim, sym, ◌∙◌, ap, subst, refl, ℕ, ◌+◌, ◌*◌, ◌<◌, ◌≤◌, ◌^◌, Bool, true, List, [], ◌∷◌, ◌++◌, length, map, Option, Some, None, slice_get, arith, length-append}
+use Rattle.std.proofs.Common.{◌≡◌, ⊎_elim, sym, ◌∙◌, ap, subst, refl, ℕ, ◌*◌, ◌<◌, ◌≤◌, ◌^◌, true, List, [], ◌∷◌, ◌++◌, length, map, Option, Some, None, slice_get, arith, length-append}
 use Rattle.std.proofs.lemmas.List.{length-map}
-use Rattle.std.proofs.lemmas.Option.{slice_get_within}
 use Rattle.node_arena.specs.declared.links.Node.{Node}
 use Rattle.node_arena.specs.declared.links.SlotRow.{SlotRow}
 use Rattle.node_arena.specs.declared.links.PlaceRow.{PlaceRow}
 use Rattle.node_arena.specs.Rows.{Rows, rows_of, edit, standing_at, starting, holding_row, linked_rows, detached_rows}
-use Rattle.node_arena.specs.Lists.{Among, head_or, last_or, without}
+use Rattle.node_arena.specs.Lists.{head_or, last_or, without}
 use Rattle.node_arena.specs.Forest.{Forest, Slot, Place, Chain, Stands, IsLawful, IsTable, Holds, core_of, place_of, forest_of, with_kids, holding, reseated, grown, left, empty_place}
 use Rattle.node_arena.proofs.Edits.{was, becomes, length_edit}
-use Rattle.node_arena.proofs.Pushes.{map_edit, map_edit_kept, mapped, mapped_back}
-use Rattle.node_arena.proofs.Splits.{IsGap, without_gap}
-use Rattle.node_arena.proofs.Linking.{chain_frame}
+use Rattle.node_arena.proofs.Pushes.{map_edit, map_edit_kept}
+use Rattle.node_arena.proofs.Splits.{IsGap}
 use Rattle.node_arena.proofs.Gaps.{left_slots, grown_places, linked_is, IsGrowing, grown_chain, grown_other, grown_told}
 use Rattle.node_arena.proofs.Leaving.{left_row_places, detached_is, IsLeaving, leaving_ends, left_chain, left_other, left_row_told}
 use Rattle.node_arena.proofs.Walks.{stands_for_one}

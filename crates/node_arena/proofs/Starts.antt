@@ -1,6 +1,6 @@
 -- The table that an arena begins with.
-use Rattle.std.proofs.Common.{◌≡◌, sym, ◌∙◌, ap, subst, refl, ℕ, zero, suc, List, [], ◌∷◌, Some, None, slice_get, arith}
-use Rattle.node_arena.specs.Rows.{Rows, Table, start_rows, start_table}
+use Rattle.std.proofs.Common.{◌≡◌, sym, ◌∙◌, ap, subst, refl, ℕ, zero, suc, [], ◌∷◌, Some, None, slice_get, arith}
+use Rattle.node_arena.specs.Rows.{Table, start_rows, start_table}
 use Rattle.node_arena.specs.Forest.{Place, Stands, forest_of, ends, IsLawful, IsTable, start_forest}
 use Rattle.node_arena.proofs.Standing.{Keeps, table_from}
 

@@ -1,6 +1,6 @@
 -- The arena's rows beside the forest keep up with it.
-use Rattle.std.proofs.Common.{◌≡◌, inl, inr, ⊎_elim, sym, ◌∙◌, ap, subst, refl, ℕ, zero, suc, ◌+◌, ◌-◌, ◌*◌, ◌<◌, ◌≤◌, ◌^◌, Bool, true, false, List, [], ◌∷◌, ◌++◌, length, map, max, count_by, not, cond, Option, Some, None, slice_get, slice_set, replicate, arith, length-append, length-set, zero-add}
-use Rattle.std.proofs.lemmas.List.{length-map, length-replicate}
+use Rattle.std.proofs.Common.{◌≡◌, ⊎_elim, sym, ◌∙◌, ap, subst, refl, ℕ, suc, ◌+◌, ◌-◌, ◌<◌, ◌≤◌, ◌^◌, Bool, true, false, List, [], ◌∷◌, ◌++◌, length, map, max, count_by, not, cond, Option, Some, None, slice_get, slice_set, replicate, drop, arith, length-append, length-drop, length-set, zero-add}
+use Rattle.std.proofs.lemmas.List.{length-map, length-replicate, length-take}
 use Rattle.std.proofs.lemmas.List.Sums.{sum_by-cons}
 use Rattle.std.proofs.lemmas.Option.{slice_get_within}
 use Rattle.tree_core.specs.declared.scalars.Scalar.{Scalar}
@@ -9,14 +9,13 @@ use Rattle.tree_core.specs.declared.comment.Comment.{Comment}
 use Rattle.tree_core.specs.declared.tree.PlaceName.{PlaceName}
 use Rattle.type_defs.specs.Fields.{lists_at, scalar_count}
 use Rattle.type_defs.proofs.FieldTable.{scalar_count_few}
-use Rattle.node_arena.specs.declared.links.Node.{Node}
 use Rattle.node_arena.specs.declared.payload.Facts.{Facts}
 use Rattle.node_arena.specs.Rows.{edit, new_node, standing_at}
-use Rattle.node_arena.specs.Lists.{without, insert_after, insert_before}
-use Rattle.node_arena.specs.Forest.{Forest, Place, Linked, linked_of, make_of, new_places, empty_place, with_kids, holding, reseated, cleared, clear_of, fill_of, put_of, grown, given, at_slot, left, list_at, node_at, insert_first_of, insert_after_of, insert_before_of, unlink_of}
-use Rattle.node_arena.specs.Payload.{Said, said_of, no_facts, with_node, with_place, first_in, scalar_number, commented, coming_from}
+use Rattle.node_arena.specs.Lists.{insert_after, insert_before}
+use Rattle.node_arena.specs.Forest.{Forest, Place, Linked, linked_of, make_of, new_places, empty_place, holding, reseated, cleared, clear_of, put_of, grown, given, at_slot, left, list_at, node_at, insert_first_of, insert_after_of, insert_before_of, unlink_of}
+use Rattle.node_arena.specs.Payload.{Said, said_of, no_facts, with_node, with_copy, with_place, copied_facts, scalars_from, first_in, scalar_number, commented, coming_from}
 use Rattle.node_arena.specs.Reads.{kind_at, kind_in}
-use Rattle.node_arena.specs.Store.{Store, store_of, kind_of, IsStore, single_count}
+use Rattle.node_arena.specs.Store.{kind_of, IsStore, single_count}
 use Rattle.node_arena.proofs.Edits.{length_edit, was_kept}
 use Rattle.node_arena.proofs.Pushes.{item_at, mapped, push_cases, map_append, map_edit_kept}
 
@@ -35,20 +34,22 @@ places_made F kind =
     let b = new_places_length (length F.slots) (lists_at kind) in
     omega arith
 
+length_from : (xs : List Scalar) (first count : ℕ) → first + count ≤ length xs → length (scalars_from xs first count) ≡ count
+length_from xs first count h = let a = length-take (first + count - first) (drop first xs) in let b = length-drop first xs in omega arith
+
 -- A new node.
-store_with : (a : Linked) (p : Said) (kind n s : ℕ) → IsStore a p → n ≤ s → IsStore (linked_of (make_of a.forest kind) n) (record { facts = p.facts ++ no_facts (length p.scalars) ∷ []; scalars = p.scalars ++ replicate (scalar_count kind) Null; names = p.names ++ replicate (single_count kind) None; spare = s })
-store_with a p kind n s w le =
+store_row : (a : Linked) (p : Said) (kind n s : ℕ) (new : Facts) (more : List Scalar) → IsStore a p → n ≤ s → new.first_scalar ≡ length p.scalars → length more ≡ scalar_count kind → IsStore (linked_of (make_of a.forest kind) n) (record { facts = p.facts ++ new ∷ []; scalars = p.scalars ++ more; names = p.names ++ replicate (single_count kind) None; spare = s })
+store_row a p kind n s new more w le first nulls =
     let F = a.forest in
-    let facts = length-append p.facts (no_facts (length p.scalars) ∷ []) in
+    let facts = length-append p.facts (new ∷ []) in
     let nodes = length-append F.nodes (new_node kind (length F.slots) ∷ []) in
     let names = length-append p.names (replicate (single_count kind) None) in
     let none : Option PlaceName = None in
-    let more = length-replicate (single_count kind) none in
+    let unnamed = length-replicate (single_count kind) none in
     let places = places_made F kind in
     let had = w.facts in
     let named = w.names in
-    let scalars = length-append p.scalars (replicate (scalar_count kind) Null) in
-    let nulls = length-replicate (scalar_count kind) Null in
+    let scalars = length-append p.scalars more in
     let few = scalar_count_few kind in
     let were = w.few in
     record {
@@ -61,20 +62,42 @@ store_with a p kind n s w le =
           (λ e.
           ⊎_elim (λ d. let old = w.scalars j k f e d in omega arith)
           (λ d. let lt = slice_get_within (map kind_of F.nodes) j k e in let at = d.0 in absurd (omega arith))
-          (push_cases p.facts j (no_facts (length p.scalars)) f h))
+          (push_cases p.facts j new f h))
           (λ e.
           ⊎_elim (λ d. let lt = slice_get_within p.facts j f d in let at = e.0 in absurd (omega arith))
           (λ d.
-          let first : f.first_scalar ≡ length p.scalars = ap (λ (z : Facts). z.first_scalar) d.1 in
+          let begins : f.first_scalar ≡ new.first_scalar = ap (λ (z : Facts). z.first_scalar) d.1 in
           let count : scalar_count k ≡ scalar_count kind = ap scalar_count e.1 in
           omega arith)
-          (push_cases p.facts j (no_facts (length p.scalars)) f h))
+          (push_cases p.facts j new f h))
           (push_cases (map kind_of F.nodes) j kind k kinds);
       few = omega arith;
       spare = le;
     }
 
--- the same facts and another count of memory
+store_with : (a : Linked) (p : Said) (kind n s : ℕ) → IsStore a p → n ≤ s → IsStore (linked_of (make_of a.forest kind) n) (record { facts = p.facts ++ no_facts (length p.scalars) ∷ []; scalars = p.scalars ++ replicate (scalar_count kind) Null; names = p.names ++ replicate (single_count kind) None; spare = s })
+store_with a p kind n s w le = store_row a p kind n s (no_facts (length p.scalars)) (replicate (scalar_count kind) Null) w le refl (length-replicate (scalar_count kind) Null)
+
+-- the scalars of a node are among all
+pub scalars_within : (a : Linked) (p : Said) (j : ℕ) → IsStore a p → j < length a.forest.nodes → first_in (slice_get p.facts j) + scalar_count (kind_at a.forest j) ≤ length p.scalars
+scalars_within a p j w lt =
+    let m = item_at a.forest.nodes j lt in
+    let e = w.facts in
+    let f = item_at p.facts j (omega arith) in
+    subst (λ z. first_in z + scalar_count (kind_at a.forest j) ≤ length p.scalars) (sym f.1)
+    (subst (λ z. f.0.first_scalar + scalar_count (kind_in z) ≤ length p.scalars) (sym m.1) (w.scalars j m.0.kind f.0 (mapped kind_of a.forest.nodes j m.0 m.1) f.1))
+
+-- a new node that says what another says
+pub store_copied : (a b : Linked) (p q : Said) (j kind scalars places : ℕ) → IsStore a p → j < length a.forest.nodes → 0 < a.spare → kind ≡ kind_at a.forest j → scalars ≡ scalar_count kind → places ≡ single_count kind → q ≡ with_copy p j scalars places → b ≡ linked_of (make_of a.forest kind) (a.spare - 1) → IsStore b q
+store_copied a b p q j kind scalars places w lt some k e f g h =
+    let had = w.spare in
+    let within : first_in (slice_get p.facts j) + scalar_count kind ≤ length p.scalars = subst (λ z. first_in (slice_get p.facts j) + scalar_count z ≤ length p.scalars) (sym k) (scalars_within a p j w lt) in
+    let more : List Scalar = scalars_from p.scalars (first_in (slice_get p.facts j)) (scalar_count kind) in
+    let long : length more ≡ scalar_count kind = length_from p.scalars (first_in (slice_get p.facts j)) (scalar_count kind) within in
+    subst (λ z. IsStore z q) (sym h)
+    (subst (λ z. IsStore (linked_of (make_of a.forest kind) (a.spare - 1)) z) (sym (g ∙ (ap (λ z. with_copy p j z places) e ∙ ap (λ z. with_copy p j (scalar_count kind) z) f)))
+    (store_row a p kind (a.spare - 1) (p.spare - 1) (copied_facts (length p.scalars) (slice_get p.facts j)) more w (omega arith) refl long))
+
 store_room : (a b : Linked) (p q : Said) → IsStore a p → b.forest ≡ a.forest → q ≡ said_of p.facts p.scalars p.names q.spare → b.spare ≤ q.spare → IsStore b q
 store_room a b p q w e h le =
     let facts : q.facts ≡ p.facts = ap (λ (z : Said). z.facts) h in

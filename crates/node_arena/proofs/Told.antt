@@ -8,11 +8,10 @@ use Rattle.type_defs.specs.Fields.{Field, slots_at, lists_at, is_list_at, list_s
 use Rattle.node_arena.specs.declared.links.Node.{Node}
 use Rattle.node_arena.specs.declared.links.SlotRow.{SlotRow}
 use Rattle.node_arena.specs.declared.links.PlaceRow.{PlaceRow}
-use Rattle.node_arena.specs.declared.state.PlaceState.{PlaceState}
 use Rattle.node_arena.specs.declared.state.PlaceState.TheVariants.{Root, Single, Listed, Out}
 use Rattle.node_arena.specs.Rows.{Rows, Table}
-use Rattle.node_arena.specs.Lists.{Among, Distinct, head_or, last_or, without}
-use Rattle.node_arena.specs.Forest.{Forest, Slot, Place, Linked, Chain, linked_of, forest_of, place_of, core_of, IsTable, IsListSlot, slot_at, owner_of, node_at, node_of}
+use Rattle.node_arena.specs.Lists.{Among, head_or, last_or, without}
+use Rattle.node_arena.specs.Forest.{Slot, Linked, forest_of, place_of, core_of, IsTable, IsListSlot, slot_at, owner_of, node_at, node_of}
 use Rattle.node_arena.specs.Reads.{kind_at, base_at, place_at, kids_at, kids_in, first_at, following, preceding, next_at, next_in, prev_at, prev_in, owner_at, owner_in, index_at, index_in, slot_node, slot_index, slot_state, state_at, state_in, kind_in, base_in, place_in}
 use Rattle.node_arena.proofs.Pushes.{mapped}
 use Rattle.node_arena.proofs.Splits.{without_gap, gap_apart}

@@ -7,7 +7,7 @@ use Rattle.std.proofs.lemmas.Map.Steps.{length-le_from_distinct_below}
 use Rattle.std.proofs.lemmas.Option.{slice_get_within}
 use Rattle.node_arena.specs.declared.links.Node.{Node}
 use Rattle.node_arena.specs.declared.links.PlaceRow.{PlaceRow}
-use Rattle.node_arena.specs.Rows.{Rows, rows_of}
+use Rattle.node_arena.specs.Rows.{Rows}
 use Rattle.node_arena.specs.Lists.{Among, Distinct, head_or}
 use Rattle.node_arena.specs.Forest.{Chain, Forest, Slot, Place, Stands, IsLawful, followed, slot_of, place_of, forest_of, core_of}
 use Rattle.node_arena.proofs.Linking.{chain_row}

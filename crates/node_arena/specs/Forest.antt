@@ -1,5 +1,5 @@
 -- What a table of links stands for: nodes with slots, slots with lists of places, places with nodes.
-use Rattle.std.specs.Prelude.{◌≡◌, ◌≢◌, ◌⊎◌, ℕ, zero, suc, ◌+◌, ◌*◌, ◌<◌, ◌≤◌, ◌^◌, Bool, true, false, List, [], ◌∷◌, ◌++◌, length, map, Option, Some, None, slice_get, ◌==◌, if◌then◌else◌}
+use Rattle.std.specs.Prelude.{◌≡◌, ℕ, zero, suc, ◌+◌, ◌*◌, ◌<◌, ◌≤◌, ◌^◌, Bool, true, false, List, [], ◌∷◌, ◌++◌, length, map, Option, Some, None, slice_get, take, if◌then◌else◌}
 use Rattle.type_defs.specs.Fields.{lists_at, is_list_at}
 use Rattle.node_arena.specs.declared.links.Node.{Node}
 use Rattle.node_arena.specs.declared.links.SlotRow.{SlotRow}
@@ -306,6 +306,10 @@ make_of F kind = record {
   slots = F.slots ++ new_slots (length F.nodes) (length F.places) 0 (lists_at kind);
   places = F.places ++ new_places (length F.slots) (lists_at kind);
 }
+
+-- the first nodes, slots and places
+abbrev pub front_forest : ℕ → ℕ → ℕ → Forest → Forest
+front_forest nodes slots places F = record { nodes = take nodes F.nodes; slots = take slots F.slots; places = take places F.places }
 
 -- the root place alone
 abbrev pub start_forest : Forest

@@ -1,4 +1,6 @@
+pub mod Climbs
 pub mod Forest
+pub mod Fronts
 pub mod Lists
 pub mod Payload
 pub mod Reads

@@ -1,11 +1,10 @@
 -- What nodes say and how places are named, beside the links.
-use Rattle.std.specs.Prelude.{◌≡◌, ℕ, ◌+◌, ◌-◌, ◌*◌, ◌≤◌, List, [], ◌∷◌, ◌++◌, length, Option, Some, None, slice_get, slice_set, replicate}
+use Rattle.std.specs.Prelude.{ℕ, ◌+◌, ◌-◌, ◌*◌, ◌≤◌, List, [], ◌∷◌, ◌++◌, length, Option, Some, None, slice_get, slice_range, replicate}
 use Rattle.tree_core.specs.declared.scalars.Scalar.{Scalar}
 use Rattle.tree_core.specs.declared.scalars.Scalar.TheVariants.{Null}
 use Rattle.tree_core.specs.declared.comment.Comment.{Comment}
 use Rattle.tree_core.specs.declared.tree.PlaceName.{PlaceName}
 use Rattle.node_arena.specs.declared.payload.Facts.{Facts}
-use Rattle.node_arena.specs.Rows.{edit}
 
 -- the facts of the nodes, their scalars one after another, the names of the places, and for how
 -- many new nodes or places there is memory
@@ -67,6 +66,23 @@ from_in (Some f) = f.from
 abbrev pub name_in : Option (Option PlaceName) → Option PlaceName
 name_in None = None
 name_in (Some name) = name
+
+-- what a copy of a node says
+abbrev pub copied_facts : ℕ → Option Facts → Facts
+copied_facts first o = record { first_scalar = first; lead = lead_in o; trail = trail_in o; inner = inner_in o; from = from_in o }
+
+-- some scalars of a node
+abbrev pub scalars_from : List Scalar → ℕ → ℕ → List Scalar
+scalars_from scalars first count = slice_range scalars first (first + count)
+
+-- a new node that says what another says
+abbrev pub with_copy : Said → ℕ → ℕ → ℕ → Said
+with_copy a node scalars places = record {
+  facts = a.facts ++ copied_facts (length a.scalars) (slice_get a.facts node) ∷ [];
+  scalars = a.scalars ++ scalars_from a.scalars (first_in (slice_get a.facts node)) scalars;
+  names = a.names ++ replicate places None;
+  spare = a.spare - 1;
+}
 
 abbrev pub commented : List Comment → List Comment → List Comment → Facts → Facts
 commented lead trail inner f = record f { lead = lead; trail = trail; inner = inner }

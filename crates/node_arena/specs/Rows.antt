@@ -1,5 +1,5 @@
 -- Rows of nodes, slots and places, and what a write changes.
-use Rattle.std.specs.Prelude.{◌≡◌, ℕ, suc, ◌+◌, ◌*◌, ◌<◌, ◌≤◌, Bool, true, false, List, [], ◌∷◌, ◌++◌, length, Option, Some, None, slice_get, slice_set}
+use Rattle.std.specs.Prelude.{ℕ, suc, ◌+◌, ◌*◌, ◌<◌, ◌≤◌, Bool, true, false, List, [], ◌∷◌, ◌++◌, length, Option, Some, None, slice_get, slice_set, take}
 use Rattle.node_arena.specs.declared.links.Node.{Node}
 use Rattle.node_arena.specs.declared.links.SlotRow.{SlotRow}
 use Rattle.node_arena.specs.declared.links.PlaceRow.{PlaceRow}
@@ -22,6 +22,10 @@ rows_of nodes slots places = record { nodes = nodes; slots = slots; places = pla
 
 abbrev pub table_of : Rows → ℕ → Table
 table_of rows spare = record { rows = rows; spare = spare }
+
+-- the first rows of each sort
+abbrev pub front_rows : ℕ → ℕ → ℕ → Rows → Rows
+front_rows nodes slots places t = record { nodes = take nodes t.nodes; slots = take slots t.slots; places = take places t.places }
 
 -- lengths and capacities leave room for so many new nodes with at most four slots each
 pub record HasRoom (nodes most_nodes slots most_slots places most_places spare : ℕ) : Type 0 where

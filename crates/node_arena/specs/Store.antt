@@ -9,7 +9,8 @@ use Rattle.node_arena.specs.declared.links.Node.{Node}
 use Rattle.node_arena.specs.declared.payload.Facts.{Facts}
 use Rattle.node_arena.specs.Rows.{edit}
 use Rattle.node_arena.specs.Forest.{Forest, Linked, make_of, start_forest}
-use Rattle.node_arena.specs.Payload.{Said, no_facts, scalar_number, commented, coming_from, lead_in, trail_in, inner_in, from_in, name_in}
+use Rattle.node_arena.specs.Reads.{kind_at}
+use Rattle.node_arena.specs.Payload.{Said, no_facts, copied_facts, scalars_from, first_in, scalar_number, commented, coming_from, lead_in, trail_in, inner_in, from_in, name_in}
 
 -- each node has its facts, and its scalars one after another from a number on; each place has a
 -- name or none; and there is memory for `spare` new nodes or places
@@ -46,6 +47,19 @@ make_in A kind = record {
   names = A.names ++ replicate (single_count kind) None;
   spare = A.spare - 1;
 }
+
+-- a new node of a node's kind that says what it says
+abbrev pub copied_as : Store → ℕ → ℕ → Store
+copied_as A node kind = record {
+  forest = make_of A.forest kind;
+  facts = A.facts ++ copied_facts (length A.scalars) (slice_get A.facts node) ∷ [];
+  scalars = A.scalars ++ scalars_from A.scalars (first_in (slice_get A.facts node)) (scalar_count kind);
+  names = A.names ++ replicate (single_count kind) None;
+  spare = A.spare - 1;
+}
+
+abbrev pub copied_in : Store → ℕ → Store
+copied_in A node = copied_as A node (kind_at A.forest node)
 
 -- the nodes or the places would be too many
 abbrev pub IsFullFor : Store → ℕ → Type 0

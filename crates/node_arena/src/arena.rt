@@ -5,6 +5,7 @@ ghost use Rattle.tree_core.specs.declared.scalars.Scalar.{Scalar as scalar};
 ghost use Rattle.type_defs.specs.Fields.{is_list_at, lists_at, scalar_count as scalars_of};
 ghost use Rattle.node_arena.specs.Lists.{is_list};
 ghost use Rattle.node_arena.specs.Forest.{Joins, JoinsAt, MayGo, clear_of, insert_after_of, insert_before_of, insert_first_of, linked_of, list_at, node_at, put_of, unlink_of};
+ghost use Rattle.node_arena.specs.Fronts.{MayGoBefore};
 ghost use Rattle.node_arena.specs.Payload.{said_of};
 ghost use Rattle.node_arena.specs.Reads.{base_at, first_at, index_at, kind_at, next_at, owner_at, place_at, prev_at, state_at};
 ghost use Rattle.node_arena.specs.Store.{IsFullFor, changed, from_at, inner_at, lead_at, make_in, name_at, placed, reserved, scalar_at, single_count, start_store, trail_at, with_comments, with_name, with_scalar, with_source};
@@ -30,8 +31,8 @@ pub const MOST_PLACES: usize = 67108864;
 /// node is held by itself. Ids are numbers from 0 in the order in which nodes and places are made.
 #[derive(Drop)]
 pub struct Arena {
-    forest: LinkedForest,
-    payload: Payload,
+    pub(crate) forest: LinkedForest,
+    pub(crate) payload: Payload,
 }
 
 impl Model for Arena {
@@ -51,7 +52,7 @@ fn count_singles(fields: &[FieldDef]) -> usize
 }
 
 /// How many places a new node of the kind has.
-fn singles(kind: u8) -> usize
+pub(crate) fn singles(kind: u8) -> usize
     ensures count { result ≡ single_count kind }
     ensures few { result ≤ 4 }
 {
@@ -106,6 +107,7 @@ impl Arena {
     }
 
     /// A new node of a kind, a root: its lists are empty, its other places too, its scalars null.
+    /// It may go into each place that was there before.
     pub fn make(&mut self, kind: u8) -> Result<NodeId, ArenaFault>
         ensures number { IfOk result (λ j. j ≡ length self.old.forest.nodes) }
         ensures ok { OnOk result (self.new ≡ make_in self.old kind) }
@@ -113,6 +115,7 @@ impl Arena {
         ensures full { result ≡ Err ArenaFault.Full ↔ IsFullFor self.old kind }
         ensures list { result ≢ Err ArenaFault.NotInList }
         ensures memory { result ≡ Err ArenaFault.NoMemory → self.old.spare ≡ 0 }
+        ensures apart { IfOk result (λ j. MayGoBefore self.new.forest (length self.old.forest.places) j) }
     {
         let places = singles(kind);
         if self.forest.nodes() >= MOST_NODES {

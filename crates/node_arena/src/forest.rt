@@ -1,7 +1,8 @@
 //! The forest over the table of links. Numbers stand for nodes, slots and places here.
 
-ghost use Rattle.std.specs.Prelude.{◌≡◌, ◌<◌, ◌≤◌, ◌+◌, ◌-◌, ◌^◌, Some, None, true, length, max, IfOk, IsOk, OnOk, OnErr, IfSome};
-ghost use Rattle.node_arena.specs.Forest.{IsListSlot, Joins, MayGo, clear_of, insert_after_of, insert_before_of, insert_first_of, linked_of, list_at, make_of, node_at, put_of, start_forest, unlink_of};
+ghost use Rattle.std.specs.Prelude.{◌≡◌, ◌<◌, ◌≤◌, ◌+◌, ◌-◌, ◌*◌, ◌^◌, Some, None, true, length, max, IfOk, IsOk, OnOk, OnErr, IfSome};
+ghost use Rattle.node_arena.specs.Forest.{IsLawful, IsListSlot, Joins, MayGo, clear_of, front_forest, insert_after_of, insert_before_of, insert_first_of, linked_of, list_at, make_of, node_at, put_of, start_forest, unlink_of};
+ghost use Rattle.node_arena.specs.Fronts.{HasFewSlots, MayGoBefore};
 ghost use Rattle.node_arena.specs.Reads.{base_at, first_at, index_at, kind_at, next_at, owner_at, place_at, prev_at, state_at};
 ghost use Rattle.type_defs.specs.Fields.{is_list_at};
 
@@ -68,6 +69,7 @@ impl LinkedForest {
         requires places { length (make_of self.old.forest kind).places ≤ 2 ^ 26 }
         ensures number { result ≡ length self.old.forest.nodes }
         ensures after { self.new ≡ linked_of (make_of self.old.forest kind) (self.old.spare - 1) }
+        ensures apart { MayGoBefore self.new.forest (length self.old.forest.places) result }
     {
         self.links.make(kind)
     }
@@ -194,6 +196,31 @@ impl LinkedForest {
         ensures root { 0 < result }
     {
         self.links.places()
+    }
+
+    pub fn slots(&self) -> usize
+        ensures count { result ≡ length self.now.forest.slots }
+        ensures few { result ≤ 4 * length self.now.forest.nodes }
+    {
+        self.links.slots()
+    }
+
+    /// Takes away all but the first nodes, slots and places, which hold none of the others.
+    pub fn cut(&mut self, nodes: usize, slots: usize, places: usize, spare: u32)
+        requires lawful { IsLawful (front_forest nodes slots places self.old.forest) }
+        requires few { HasFewSlots (front_forest nodes slots places self.old.forest) }
+        requires spare { spare ≤ self.old.spare }
+        ensures after { self.new ≡ linked_of (front_forest nodes slots places self.old.forest) spare }
+        ensures spare { self.new.spare ≡ spare }
+    {
+        self.links.cut(nodes, slots, places, spare);
+    }
+
+    /// The laws of the forest, for proofs.
+    pub fn laws(&self)
+        ensures { IsLawful self.now.forest }
+    {
+        let _links = &self.links;
     }
 
     #[tactic(auto, using(crate::proofs::Told::node_row, crate::proofs::Told::kind_told))]

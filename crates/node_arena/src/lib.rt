@@ -7,14 +7,22 @@
 
 mod arena;
 mod chains;
+mod cloning;
+mod copies;
 mod forest;
 mod ids;
 mod links;
 mod payload;
+mod preorder;
 mod state;
 mod steps;
+#[cfg(test)]
+mod tests;
 
 pub use arena::{Arena, MOST_NODES, MOST_PLACES};
+pub use cloning::{copy_comments, copy_scalar};
+pub use copies::Copies;
 pub use ids::{NodeId, PlaceId};
+pub use preorder::Size;
 pub use state::{ArenaFault, PlaceState};
 pub use steps::Steps;

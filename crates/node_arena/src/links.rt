@@ -1,8 +1,8 @@
 //! The table of links: rows of nodes, slots and places, and the one call that writes an entry of a
 //! row that exists.
 
-ghost use Rattle.std.specs.Prelude.{◌≡◌, ◌<◌, ◌≤◌, ◌+◌, ◌-◌, ◌*◌, ◌^◌, ◌++◌, ◌∷◌, [], ℕ, Some, length, map, max, slice_get, vec_len, vec_capacity, IfOk, IsOk, OnOk, OnErr};
-ghost use Rattle.node_arena.specs.Rows.{Rows, Table, HasRow, made_rows, place_row, place_rows, slot_row, slot_rows, start_table, table_of, with_place, written};
+ghost use Rattle.std.specs.Prelude.{◌≡◌, ◌<◌, ◌≤◌, ◌+◌, ◌-◌, ◌*◌, ◌^◌, ◌++◌, ◌∷◌, [], ℕ, Some, length, map, max, slice_get, take, vec_len, vec_capacity, IfOk, IsOk, OnOk, OnErr};
+ghost use Rattle.node_arena.specs.Rows.{Rows, Table, HasRow, front_rows, made_rows, place_row, place_rows, slot_row, slot_rows, start_table, table_of, with_place, written};
 ghost use Rattle.node_arena.specs.Lists.{is_list};
 
 use crate::steps::Steps;
@@ -180,6 +180,23 @@ impl Links {
         ensures { result ≡ length self.now.rows.places }
     {
         self.places.len()
+    }
+
+    pub fn slots(&self) -> usize
+        ensures { result ≡ length self.now.rows.slots }
+    {
+        self.slots.len()
+    }
+
+    /// Takes away all but the first rows of each sort.
+    pub fn cut(&mut self, nodes: usize, slots: usize, places: usize, spare: u32)
+        requires { spare ≤ self.old.spare }
+        ensures { self.new ≡ table_of (front_rows nodes slots places self.old.rows) spare }
+    {
+        self.nodes.truncate(nodes);
+        self.slots.truncate(slots);
+        self.places.truncate(places);
+        self.spare = spare;
     }
 
     /// For how many calls of `make` or `push_place` there is memory.

@@ -1,10 +1,11 @@
 //! What nodes say and how places are named, in rows beside the links.
 
-ghost use Rattle.std.specs.Prelude.{◌≡◌, ◌<◌, ◌≤◌, ◌+◌, ◌-◌, ◌*◌, ◌^◌, ◌++◌, ℕ, Some, None, length, replicate, slice_get, slice_set, max, vec_len, vec_capacity, IfOk, IsOk, OnOk, OnErr};
+ghost use Rattle.std.specs.Prelude.{◌≡◌, ◌<◌, ◌≤◌, ◌+◌, ◌-◌, ◌*◌, ◌^◌, ◌++◌, ℕ, Some, None, length, replicate, slice_get, slice_set, slice_range, take, max, vec_len, vec_capacity, IfOk, IsOk, OnOk, OnErr};
 ghost use Rattle.tree_core.specs.declared.scalars.Scalar.TheVariants.{Null};
 ghost use Rattle.node_arena.specs.Rows.{edit};
-ghost use Rattle.node_arena.specs.Payload.{HasPayloadRoom, said_of, start_said, with_node, with_place, scalar_number, lead_in, trail_in, inner_in, from_in, name_in, commented, coming_from};
+ghost use Rattle.node_arena.specs.Payload.{HasPayloadRoom, said_of, start_said, with_node, with_copy, with_place, first_in, scalar_number, lead_in, trail_in, inner_in, from_in, name_in, commented, coming_from};
 
+use crate::cloning::{copy_comments, copy_scalars};
 use crate::links::keep;
 use sqlite_items::Items;
 use std::alloc::{AllocError, Global};
@@ -133,6 +134,61 @@ impl Payload {
         keep_nulls(&mut self.scalars, scalars);
         keep_unnamed(&mut self.names, places);
         self.spare -= 1;
+    }
+
+    /// A new node that says what another says, with so many places that have no names.
+    pub fn copy_node(&mut self, node: u32, scalars: usize, places: usize) -> Result<(), AllocError>
+        requires at { node < length self.old.facts }
+        requires spare { 0 < self.old.spare }
+        requires few_scalars { scalars ≤ 4 }
+        requires few_places { places ≤ 4 }
+        requires few { length self.old.scalars < 2 ^ 32 }
+        requires scalars { first_in (slice_get self.old.facts node) + scalars ≤ length self.old.scalars }
+        ensures ok { OnOk result (self.new ≡ with_copy self.old node scalars places) }
+        ensures err { OnErr result (self.new ≡ self.old) }
+    {
+        let facts = &self.facts[node as usize];
+        let first = facts.first_scalar as usize;
+        let from = facts.from;
+        let lead = copy_comments(self.alloc, &facts.lead)?;
+        let trail = copy_comments(self.alloc, &facts.trail)?;
+        let inner = copy_comments(self.alloc, &facts.inner)?;
+        let mut copied = copy_scalars(self.alloc, &self.scalars[first..first + scalars])?;
+        let first_scalar = self.scalars.len() as u32;
+        self.scalars.append(&mut copied)?;
+        keep(
+            &mut self.facts,
+            Facts {
+                first_scalar,
+                lead,
+                trail,
+                inner,
+                from,
+            },
+        );
+        keep_unnamed(&mut self.names, places);
+        self.spare -= 1;
+        Ok(())
+    }
+
+    /// Takes away all but the first rows of each sort.
+    pub fn cut(&mut self, nodes: usize, scalars: usize, places: usize)
+        ensures { self.new ≡ said_of (take nodes self.old.facts) (take scalars self.old.scalars) (take places self.old.names) self.old.spare }
+    {
+        self.facts.truncate(nodes);
+        self.scalars.truncate(scalars);
+        self.names.truncate(places);
+    }
+
+    /// How many scalars there are.
+    pub fn scalars(&self) -> usize
+        ensures { result ≡ length self.now.scalars }
+    {
+        self.scalars.len()
+    }
+
+    pub fn alloc(&self) -> Global {
+        self.alloc
     }
 
     /// A new place without a name.

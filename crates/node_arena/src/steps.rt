@@ -1,6 +1,6 @@
 //! A count of the links that are written.
 
-ghost use Rattle.std.specs.Prelude.{◌≡◌, ◌+◌};
+ghost use Rattle.std.specs.Prelude.{◌≡◌, ◌+◌, ◌<◌};
 
 use std::marker::Model;
 use std::sync::ledger::{Blank, Book, Ledger, Share};
@@ -24,6 +24,17 @@ impl<L: Ledger> Model for Steps<L> {
 }
 
 impl<L: Ledger> Steps<L> {
+    /// A count from 0. The blank has parts, all of which the count takes.
+    pub fn new(blank: Blank) -> Steps<L>
+        requires name { blank.name ≡ L.name }
+        requires parts { blank.parts ≡ L.parts }
+        requires some { 0 < blank.parts }
+        ensures { result ≡ 0 }
+    {
+        let (written, pen) = blank.open::<L>();
+        Steps { written, pen }
+    }
+
     /// One more link.
     pub(crate) fn tick(&mut self)
         ensures { self.new ≡ self.old + 1 }

@@ -1,4 +1,4 @@
-use Rattle.std.proofs.Common.{◌≤◌, map, vec_len, vec_capacity}
+use Rattle.std.proofs.Common.{◌≤◌, map, vec_capacity}
 use Rattle.node_arena.specs.Lists.{is_list}
 use Rattle.node_arena.proofs.Making.{IsMaking}
 use Rattle.node_arena.proofs.links.push_slots.Given as goal

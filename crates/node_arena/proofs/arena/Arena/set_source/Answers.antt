@@ -1,4 +1,4 @@
-use Rattle.node_arena.proofs.Stores.{facts_row, store_source}
+use Rattle.node_arena.proofs.Stores.{store_source}
 use Rattle.node_arena.proofs.arena.Arena.set_source.Goals as goal
 
 pub invariant_of-self : goal.invariant_of-self

@@ -1,4 +1,4 @@
-use Rattle.node_arena.proofs.Methods.{after_case, at_row, ends_case, few_case, joins_row}
+use Rattle.node_arena.proofs.Methods.{after_case, ends_case, joins_row}
 use Rattle.node_arena.proofs.forest.LinkedForest.insert_after.Goals as goal
 
 pub insert-requires-clause-right : goal.insert-requires-clause-right

@@ -1,4 +1,4 @@
-use Rattle.node_arena.proofs.Methods.{before_case, at_row, ends_case, few_case, joins_row}
+use Rattle.node_arena.proofs.Methods.{before_case, ends_case, joins_row}
 use Rattle.node_arena.proofs.forest.LinkedForest.insert_before.Goals as goal
 
 pub insert-requires-clause-left : goal.insert-requires-clause-left

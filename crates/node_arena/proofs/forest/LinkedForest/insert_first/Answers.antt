@@ -1,4 +1,4 @@
-use Rattle.node_arena.proofs.Methods.{first_case, few_case, head_case, joins_row}
+use Rattle.node_arena.proofs.Methods.{first_case, head_case, joins_row}
 use Rattle.node_arena.proofs.forest.LinkedForest.insert_first.Goals as goal
 
 pub slot-row-requires : goal.slot-row-requires
