@@ -250,7 +250,7 @@ takes_name c.Member form level = is_any_name form || is_private form
 takes_name c.ObjectKey form level = is_key form
 takes_name c.ClassKey form level = is_key form || is_private form
 takes_name c.Source form level = is_string form
-takes_name _ form level = false
+takes_name _ _ level = false
 
 -- the forms that a place of the table takes in no parentheses
 abbrev pub takes_bare : Category → Form → ℕ → Bool
@@ -293,7 +293,7 @@ aims_bare c.Binding form level = is_pattern 1 form level
 aims_bare c.BindingValue form level = is_pattern 1 form level || is_default 1 form level
 aims_bare c.BindingElement form level = is_pattern 1 form level || is_default 1 form level || is_rest_of 1 form level
 aims_bare c.BindingProperty form level = is_property_of 1 form level
-aims_bare _ form level = false
+aims_bare _ _ level = false
 
 abbrev pub aims_simple : Category → Shape → Bool
 aims_simple c.BindingProperty x = false
@@ -308,12 +308,12 @@ takes_left (l.Level least) (f.Dot _) x = link_at least x
 takes_left (l.Level least) (f.Index _) x = link_at least x
 takes_left (l.Level least) (f.Call _) x = link_at least x
 takes_left (l.Level least) (f.Binary (o.Word w.In)) x = level_at least x || is_private x.form
-takes_left (l.Level least) form x = level_at least x
-takes_left (l.Coalescing least) form x = level_at least x || is_coalescing x
-takes_left (l.Other least) form x = level_at least x && not (is_coalescing x)
-takes_left l.Object form x = link_at 17 x || is_super x.form
+takes_left (l.Level least) _ x = level_at least x
+takes_left (l.Coalescing least) _ x = level_at least x || is_coalescing x
+takes_left (l.Other least) _ x = level_at least x && not (is_coalescing x)
+takes_left l.Object _ x = link_at 17 x || is_super x.form
 takes_left l.Simple (f.Assignment (o.Mark m.Assign)) x = aims c.Binding x
-takes_left l.Simple form x = is_simple x
+takes_left l.Simple _ x = is_simple x
 
 abbrev pub first_text : List Scalar → List ℕ
 first_text (scalar.Text units ∷ more) = units

@@ -60,7 +60,7 @@ abbrev pub expression : ℕ → Way → Piece
 expression least way = child (at c.Expression least) way
 
 abbrev pub at_place : Form → Place → Want
-at_place form place = at place.category place.least
+at_place _ place = at place.category place.least
 
 abbrev pub way_of : Form → Place → Way
 way_of form place = within place.scope (flow_of form)
@@ -126,15 +126,15 @@ declarators_of _ way = nothing
 
 -- how a part of the table is spelled in the form
 abbrev pub piece_of : Form → Part → Piece
-piece_of form (p.Mark punctuator) = a_mark punctuator
-piece_of form (p.Word name) = a_word name
-piece_of form (p.Spelled name) = spells (meta_spelling name)
+piece_of _ (p.Mark punctuator) = a_mark punctuator
+piece_of _ (p.Word name) = a_word name
+piece_of _ (p.Spelled name) = spells (meta_spelling name)
 piece_of form p.Operator = operator_token (operator_of form)
 piece_of form p.Async = async_word form
 piece_of form p.Star = star form
-piece_of form p.Name = text free_name
-piece_of form p.AnyName = text any_name
-piece_of form p.PrivateName = text private_name
+piece_of _ p.Name = text free_name
+piece_of _ p.AnyName = text any_name
+piece_of _ p.PrivateName = text private_name
 piece_of form p.Literal = literal form
 piece_of form (p.Child place) = child_at form place
 piece_of form p.Right = expression (right_level (operator_of form)) same
@@ -142,10 +142,10 @@ piece_of form (p.Told punctuator place) = told (mark punctuator) (child_at form 
 piece_of form (p.ToldByWord name place) = told (word name) (child_at form place)
 piece_of form (p.Between opener place closer) = told (mark opener) (both (child_at form place) (a_mark closer))
 piece_of form (p.Begun name place) = either (both (ahead (word name)) (child_at form place)) (both (ahead (other (word name))) hole)
-piece_of form p.MaybeName = either (child (at c.Name 0) same) hole
+piece_of _ p.MaybeName = either (child (at c.Name 0) same) hole
 piece_of form (p.UnlessEnd place) = either (both (ahead same_line) (child_at form place)) hole
-piece_of form p.Absent = hole
-piece_of form p.Nothing = no_list
+piece_of _ p.Absent = hole
+piece_of _ p.Nothing = no_list
 piece_of form (p.Only place close) = all (into (at_place form place) (way_of form place) ∷ no_list ∷ either (a_mark m.Comma) nothing ∷ a_mark close ∷ [])
 piece_of form (p.List list) = both (commas list.holes true (at_place form list.place) (way_of form list.place)) (a_mark list.close)
 piece_of form (p.MaybeList opener list) = both (a_mark opener) (both (commas list.holes true (at_place form list.place) (way_of form list.place)) (a_mark list.close))
@@ -155,14 +155,14 @@ piece_of form (p.Members place close) = both (row true (at_place form place) (wa
 piece_of form (p.CaseRow place) = row false (at_place form place) (way_of form place)
 piece_of form (p.Cases place) = both (row false (at_place form place) (way_of form place)) (a_mark m.CloseBrace)
 piece_of form p.Declarators = declarators_of form same
-piece_of form (p.OneOf one two) = ahead (or (word one) (word two))
-piece_of form p.SameLine = ahead same_line
-piece_of form p.End = statement_end
-piece_of form p.FieldEnd = nothing
-piece_of form p.MaybeSemicolon = either (a_mark m.Semicolon) (ahead (other (mark m.Semicolon)))
+piece_of _ (p.OneOf one two) = ahead (or (word one) (word two))
+piece_of _ p.SameLine = ahead same_line
+piece_of _ p.End = statement_end
+piece_of _ p.FieldEnd = nothing
+piece_of _ p.MaybeSemicolon = either (a_mark m.Semicolon) (ahead (other (mark m.Semicolon)))
 
 abbrev pub pieces_of : Form → List Part → List Piece
-pieces_of form [] = []
+pieces_of _ [] = []
 pieces_of form (part ∷ more) = piece_of form part ∷ pieces_of form more
 
 abbrev pub table_pieces : Form → List Piece
@@ -183,8 +183,8 @@ static_word standing.Instance = nothing
 
 -- the words before the key of a method
 abbrev pub method_words : Access → Form → Piece
-method_words a.Get form = a_word w.Get
-method_words a.Set form = a_word w.Set
+method_words a.Get _ = a_word w.Get
+method_words a.Set _ = a_word w.Set
 method_words _ form = both (async_word form) (star form)
 
 -- what stands before the parts that the table gives
