@@ -1,0 +1,4 @@
+pub mod Filled
+pub mod Joining
+pub mod Sizes
+pub mod Walks

@@ -1,0 +1,148 @@
+//! The scalars of a built node.
+
+use crate::arg::BuildArg;
+use crate::takes::{Takes, field_takes};
+use node_arena::{Arena, NodeId};
+use std::alloc::{AllocError, Global};
+use tree_core::{Scalar, Units};
+use type_defs::{Kind, builder, scalar_count};
+
+/// Whether a specifier takes its one name twice: the second is left out, and then a copy.
+pub(crate) fn is_twice(kind: u8, args: &[BuildArg]) -> bool {
+    if !is_specifier(kind) || args.is_empty() {
+        return false;
+    }
+    args.len() == 1 || matches!(&args[1], BuildArg::Absent)
+}
+
+/// Whether nodes of the kind spell two names by one where these are the same.
+pub(crate) fn is_specifier(kind: u8) -> bool {
+    matches!(
+        Kind::from_number(kind),
+        Some(Kind::ImportSpecifier) | Some(Kind::ExportSpecifier)
+    )
+}
+
+/// Whether two nodes are names, and the same.
+pub(crate) fn same_names(arena: &Arena, first: NodeId, second: NodeId) -> bool {
+    let Some(a) = name_of(arena, first) else {
+        return false;
+    };
+    let Some(b) = name_of(arena, second) else {
+        return false;
+    };
+    a == b
+}
+
+/// The text of a node that is a name.
+fn name_of(arena: &Arena, node: NodeId) -> Option<&[u16]> {
+    if node.number() >= arena.nodes() {
+        return None;
+    }
+    let kind = arena.kind(node);
+    if kind != 1 || scalar_count(kind) == 0 {
+        return None;
+    }
+    match arena.scalar(node, 0) {
+        Scalar::Text(text) => Some(text.get()),
+        Scalar::Truth(_) | Scalar::Null => None,
+    }
+}
+
+fn ascii_units(alloc: Global, text: &str) -> Result<Units, AllocError> {
+    let mut units = Vec::new(alloc);
+    for byte in text.as_bytes() {
+        units.push(*byte as u16)?;
+    }
+    Ok(Units::new(units))
+}
+
+/// The decimal digits of a number.
+fn digits(alloc: Global, number: u64) -> Result<Units, AllocError> {
+    let mut backwards = Vec::new(alloc);
+    let mut left = number;
+    for _turn in 0..20 {
+        backwards.push(48 + (left % 10) as u16)?;
+        left /= 10;
+        if left == 0 {
+            break;
+        }
+    }
+    let mut units = Vec::new(alloc);
+    for _turn in 0..backwards.len() {
+        if let Some(digit) = backwards.pop() {
+            units.push(digit)?;
+        }
+    }
+    Ok(Units::new(units))
+}
+
+/// The scalar that an argument says; null where it says none.
+fn scalar_of(alloc: Global, value: &BuildArg) -> Result<Scalar, AllocError> {
+    match value {
+        BuildArg::Text(text) => Ok(Scalar::Text(Units::new(Vec::from_slice(alloc, text.get())?))),
+        BuildArg::Whole(number) => Ok(Scalar::Text(digits(alloc, number.unsigned_abs())?)),
+        BuildArg::Truth(truth) => Ok(Scalar::Truth(*truth)),
+        BuildArg::Absent | BuildArg::Node(_) | BuildArg::Nodes(_) | BuildArg::Null => {
+            Ok(Scalar::Null)
+        }
+    }
+}
+
+/// The sort of the literal whose value an argument says.
+fn sort_of(value: &BuildArg) -> &'static str {
+    match value {
+        BuildArg::Text(_) => "string",
+        BuildArg::Whole(_) => "number",
+        BuildArg::Truth(_) => "boolean",
+        _ => "null",
+    }
+}
+
+/// The number of the argument for a field.
+fn argument_for(kind: u8, field: u8) -> Option<usize> {
+    builder(kind).iter().position(|arg| arg.field == field)
+}
+
+/// A scalar that no argument says: false, or null.
+fn usual(takes: Takes) -> Scalar {
+    match takes {
+        Takes::Truth => Scalar::Truth(false),
+        _ => Scalar::Null,
+    }
+}
+
+/// A scalar by its field and the arguments.
+fn scalar_for(
+    alloc: Global,
+    kind: u8,
+    args: &[BuildArg],
+    field: u8,
+    takes: Takes,
+) -> Result<Scalar, AllocError> {
+    if takes == Takes::Sort && !args.is_empty() {
+        return Ok(Scalar::Text(ascii_units(alloc, sort_of(&args[0]))?));
+    }
+    let Some(at) = argument_for(kind, field) else {
+        return Ok(usual(takes));
+    };
+    if at >= args.len() || matches!(&args[at], BuildArg::Absent) {
+        return Ok(usual(takes));
+    }
+    scalar_of(alloc, &args[at])
+}
+
+/// The scalars of a node of the kind, in the order of its fields.
+pub(crate) fn scalars_for(
+    alloc: Global,
+    kind: u8,
+    args: &[BuildArg],
+) -> Result<Vec<Scalar>, AllocError> {
+    let all = field_takes(kind);
+    let count = scalar_count(kind).min(all.len());
+    let mut scalars = Vec::new(alloc);
+    for field in 0..count {
+        scalars.push(scalar_for(alloc, kind, args, field as u8, all[field])?)?;
+    }
+    Ok(scalars)
+}
