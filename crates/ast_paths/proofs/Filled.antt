@@ -61,7 +61,7 @@ given_filled F s f node x h =
     same_filled F (given (grown F s f) (length F.places) node) x (ap node_of (given_row F s f node x row.0 row.1 ∙ sym row.1)) h
 
 slot_filled : (F : Forest) (o node : Option ℕ) (f : List ℕ → List ℕ) (x : ℕ) → is_filled F x ≡ true → is_filled (at_slot F o (λ s. given (grown F s f) (length F.places) node)) x ≡ true
-slot_filled F None node f x h = h
+slot_filled F None _ f x h = h
 slot_filled F (Some s) node f x h = given_filled F s f node x h
 
 pub after_filled : (F : Forest) (p : ℕ) (node : Option ℕ) (x : ℕ) → is_filled F x ≡ true → is_filled (insert_after_of F p node) x ≡ true

@@ -62,11 +62,11 @@ long_grown : (F : Forest) (s : ℕ) (f : List ℕ → List ℕ) → length (grow
 long_grown F s f = length-append F.places (empty_place s ∷ [])
 
 nodes_at : (F : Forest) (o node : Option ℕ) (f : List ℕ → List ℕ) → length (at_slot F o (λ s. given (grown F s f) (length F.places) node)).nodes ≡ length F.nodes
-nodes_at F None node f = refl
+nodes_at F None _ f = refl
 nodes_at F (Some s) node f = given_nodes (grown F s f) (length F.places) node
 
 places_at : (F : Forest) (o node : Option ℕ) (f : List ℕ → List ℕ) → o ≢ None → length (at_slot F o (λ s. given (grown F s f) (length F.places) node)).places ≡ length F.places + 1
-places_at F None node f h = absurd (h refl)
+places_at F None _ f h = absurd (h refl)
 places_at F (Some s) node f h = given_places (grown F s f) (length F.places) node ∙ long_grown F s f
 
 pub nodes_after : (F : Forest) (p : ℕ) (node : Option ℕ) → length (insert_after_of F p node).nodes ≡ length F.nodes

@@ -29,5 +29,6 @@ fn moved_name_leaves_a_copy(rt: HostRuntime) {
     assert!(rt; arena.node_at(left) != Some(name));
     assert!(rt; parent(&arena, left) == Some(place));
     prune(&mut arena, place).expect(&rt, "the sum goes");
+    let root = arena.root();
     assert!(rt; arena.node_at(root).is_none());
 }

@@ -1,12 +1,14 @@
 //! Patterns of one node.
 
-use crate::{FieldPattern, Paths, Pattern, at, closest, filter, find, matches, reached};
-use node_arena::Arena;
+ghost use Rattle.std.specs.Prelude.{◌<◌, length, IfOk};
+
+use crate::{FieldPattern, Paths, Pattern, closest, matches};
+use node_arena::{Arena, ArenaFault, NodeId};
 use sqlite_items::Items;
 use std::alloc::{AllocError, Global};
 use std::test::Fail;
 use tree_core::{Scalar, Units};
-use type_defs::Kind;
+use type_defs::{Kind, scalar_count};
 
 fn units(alloc: Global, text: &str) -> Result<Units, AllocError> {
     let mut units = Vec::new(alloc);
@@ -16,47 +18,63 @@ fn units(alloc: Global, text: &str) -> Result<Units, AllocError> {
     Ok(Units::new(units))
 }
 
-// The pattern of a node with one field.
-fn fields(alloc: Global, name: &str, pattern: Pattern) -> Result<Pattern, AllocError> {
+// The node's first scalar is `a`, if it has one.
+fn set_name(alloc: Global, arena: &mut Arena, node: NodeId) -> Result<(), AllocError>
+    requires { node < length arena.old.forest.nodes }
+    ensures { node < length arena.new.forest.nodes }
+{
+    let name = units(alloc, "a")?;
+    if scalar_count(arena.kind(node)) > 0 {
+        arena.set_scalar(node, 0, Scalar::Text(name));
+    }
+    Ok(())
+}
+
+// An identifier of the name `a`.
+fn identifier(alloc: Global, arena: &mut Arena) -> Result<NodeId, ArenaFault>
+    ensures { IfOk result (λ j. j < length arena.new.forest.nodes) }
+{
+    let node = arena.make(Kind::Identifier.number())?;
+    match set_name(alloc, arena, node) {
+        Ok(()) => Ok(node),
+        Err(_) => Err(ArenaFault::NoMemory),
+    }
+}
+
+// Whether the field of the node is this text.
+fn has(
+    alloc: Global,
+    arena: &Arena,
+    node: NodeId,
+    name: &str,
+    text: &str,
+) -> Result<bool, AllocError>
+    requires { node < length arena.now.forest.nodes }
+{
     let name = units(alloc, name)?;
+    let pattern = Pattern::Text(units(alloc, text)?);
     let mut fields = Items::new(alloc);
     fields.push(FieldPattern { name, pattern })?;
-    Ok(Pattern::Fields(fields))
+    Ok(matches(arena, node, &Pattern::Fields(fields)))
 }
 
 #[test]
-fn matches_fields_of_a_name(rt: HostRuntime) -> Result<(), Fail> {
+fn fields_of_a_name(rt: HostRuntime) -> Result<(), Fail> {
     let mut arena = Arena::new(rt.alloc())?;
-    let node = arena.make(Kind::Identifier.number())?;
-    arena.set_scalar(node, 0, Scalar::Text(units(rt.alloc(), "a")?));
-    let cases = [
-        ("name", "a", true),
-        ("name", "b", false),
-        ("type", "Identifier", true),
-        ("kind", "a", false),
-    ];
-    for (name, text, wanted) in cases {
-        let text = Pattern::Text(units(rt.alloc(), text)?);
-        let pattern = fields(rt.alloc(), name, text)?;
-        assert!(rt; matches(&arena, node, &pattern) == wanted, "{name}");
-        assert_eq!(rt; reached(&arena, node, &pattern), 0, "{name}");
-    }
-    let none = fields(rt.alloc(), "comments", Pattern::Null)?;
-    assert!(rt; matches(&arena, node, &none));
+    let node = identifier(rt.alloc(), &mut arena)?;
+    assert!(rt; has(rt.alloc(), &arena, node, "name", "a")?);
+    assert!(rt; !has(rt.alloc(), &arena, node, "name", "b")?);
+    assert!(rt; has(rt.alloc(), &arena, node, "type", "Identifier")?);
     Ok(())
 }
 
 #[test]
-fn the_empty_root_place(rt: HostRuntime) -> Result<(), Fail> {
+fn the_root_has_nothing_above_it(rt: HostRuntime) -> Result<(), Fail> {
     let arena = Arena::new(rt.alloc())?;
     let root = Paths::from_slice(rt.alloc(), &[arena.root()])?;
-    assert_eq!(rt; find(rt.alloc(), &arena, &root, 1, &Pattern::Any)?.len(), 0);
     assert_eq!(rt;
         closest(rt.alloc(), &arena, &root, 1, &Pattern::Any)?.len(),
         0
     );
-    assert_eq!(rt; filter(rt.alloc(), &arena, &root, &Pattern::Null)?.len(), 0);
-    assert_eq!(rt; at(rt.alloc(), &root, -1)?.len(), 1);
-    assert_eq!(rt; at(rt.alloc(), &root, 1)?.len(), 0);
     Ok(())
 }

@@ -1,7 +1,7 @@
 //! Builders of nodes: a node of a kind from the arguments of its builder.
 //!
 //! The table of kinds tells which arguments a builder has and which fields they fill; what each
-//! field takes stands here. A refusal leaves the arena as it was, but for memory that it promises.
+//! field takes stands here. Arguments are refused before anything is changed.
 #![tactic(auto)]
 
 mod arg;
