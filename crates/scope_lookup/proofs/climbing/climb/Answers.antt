@@ -18,5 +18,5 @@ loop-turn-preserved c =
     record {
       at = c.in-Above.ensures.within;
       told = climb_above (c.nodes-turn-end.result + 1 - c.loop-turn._turn) (c.nodes-turn-end.result + 1 - (c.loop-turn._turn + 1)) c.args.arena.now c.loop-turn.at c.in-Above.place
-        (climb_from c.args.arena.now c.args.place) (omega (arith, t)) e c.loop-turn.invariant.told;
+          (climb_from c.args.arena.now c.args.place) (omega (arith, t)) e c.loop-turn.invariant.told;
     }

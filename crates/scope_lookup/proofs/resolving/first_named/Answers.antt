@@ -7,16 +7,16 @@ use Rattle.scope_lookup.proofs.resolving.first_named.Goals as goal
 pub returns-then-has_name-clause-first : goal.returns-then-has_name-clause-first
 returns-then-has_name-clause-first c =
     first_here c.args.arena.now c.args.name.now c.index-places-at.result (drop (suc c.loop-at.at) c.args.places.now) (drop c.loop-at.at c.args.places.now)
-      (drop-cons c.args.places.now c.loop-at.at c.index-places-at.result c.loop-at-test.true ∙ ap (λ z. z ∷ drop (suc c.loop-at.at) c.args.places.now) (sym c.index-places-at.is))
-      (sym c.has_name.ensures ∙ c.if-has_name.true)
+    (drop-cons c.args.places.now c.loop-at.at c.index-places-at.result c.loop-at-test.true ∙ ap (λ z. z ∷ drop (suc c.loop-at.at) c.args.places.now) (sym c.index-places-at.is))
+    (sym c.has_name.ensures ∙ c.if-has_name.true)
     ∙ c.loop-at.invariant
 
 pub loop-at-preserved : goal.loop-at-preserved
 loop-at-preserved c =
     ap (λ n. first_named c.args.arena.now c.args.name.now (drop n c.args.places.now)) (add-one c.loop-at.at)
     ∙ (first_later c.args.arena.now c.args.name.now c.index-places-at.result (drop (suc c.loop-at.at) c.args.places.now) (drop c.loop-at.at c.args.places.now)
-      (drop-cons c.args.places.now c.loop-at.at c.index-places-at.result c.loop-at-test.true ∙ ap (λ z. z ∷ drop (suc c.loop-at.at) c.args.places.now) (sym c.index-places-at.is))
-      (sym c.has_name.ensures ∙ c.if-has_name.false)
+    (drop-cons c.args.places.now c.loop-at.at c.index-places-at.result c.loop-at-test.true ∙ ap (λ z. z ∷ drop (suc c.loop-at.at) c.args.places.now) (sym c.index-places-at.is))
+    (sym c.has_name.ensures ∙ c.if-has_name.false)
     ∙ c.loop-at.invariant)
 
 pub returns-clause-first : goal.returns-clause-first

@@ -12,10 +12,10 @@ loop-wait-preserved-in-Continue-branch-3 c =
     record {
       known = c.step.ensures.known;
       within = All-same (λ p. p < length c.args.arena.now.forest.places) c.push.new.self.items (c.loop-wait.found.items ++ c.in-Some.wait.at ∷ []) c.in_ok-push.ensures.items
-        (All-push (λ p. p < length c.args.arena.now.forest.places) c.loop-wait.found.items c.in-Some.wait.at c.loop-wait.invariant.within b);
+          (All-push (λ p. p < length c.args.arena.now.forest.places) c.loop-wait.found.items c.in-Some.wait.at c.loop-wait.invariant.within b);
       told = told_kept c.args.arena.now c.loop-wait.stack.items c.pop.new.self.items c.step.new.stack.items c.in-Some.wait c.loop-wait.found.items c.push.new.self.items
-        (declaring c.args.arena.now c.args.scope.now) e c.in_ok-step.ensures.waits
-        (sym c.does_bind.ensures ∙ c.if-does_bind.true) c.in_ok-push.ensures.items c.loop-wait.invariant.told;
+          (declaring c.args.arena.now c.args.scope.now) e c.in_ok-step.ensures.waits
+          (sym c.does_bind.ensures ∙ c.if-does_bind.true) c.in_ok-push.ensures.items c.loop-wait.invariant.told;
     }
 
 pub loop-wait-preserved : goal.loop-wait-preserved
@@ -25,8 +25,8 @@ loop-wait-preserved c =
       known = c.step.ensures.known;
       within = c.loop-wait.invariant.within;
       told = told_passed c.args.arena.now c.loop-wait.stack.items c.pop.new.self.items c.step.new.stack.items c.in-Some.wait c.loop-wait.found.items
-        (declaring c.args.arena.now c.args.scope.now) e c.in_ok-step.ensures.waits
-        (sym c.does_bind.ensures ∙ c.if-does_bind.false) c.loop-wait.invariant.told;
+          (declaring c.args.arena.now c.args.scope.now) e c.in_ok-step.ensures.waits
+          (sym c.does_bind.ensures ∙ c.if-does_bind.false) c.loop-wait.invariant.told;
     }
 
 pub returns-clause-found : goal.returns-clause-found
