@@ -12,6 +12,7 @@ const SCRIPT = path.join(__dirname, "print.js");
 const GRAMMAR = /^(Unexpected|Unterminated|Expect|Invalid (number|Unicode escape)|Identifier directly after number|Bad character escape)/;
 
 exports.acorn = acorn;
+exports.PROGRAM = PROGRAM;
 exports.isBuilt = () => fs.existsSync(PROGRAM);
 
 // What acorn reads and the profile leaves out: `let`, `await` and `yield` as identifiers, functions as the
