@@ -1,14 +1,8 @@
 -- A syntax tree as plain data: what contracts say of a `Tree` they say of this.
 use Rattle.std.specs.Prelude.{ℕ, Bool, List, Option}
 use Rattle.tree_core.specs.declared.scalars.Scalar.{Scalar}
-use Rattle.tree_core.specs.declared.comment.Comment.{Comment}
+use Rattle.tree_core.specs.Notes.{Notes}
 use Rattle.tree_core.specs.declared.tree.PlaceName.{PlaceName}
-
--- the comments before, after and inside a node
-pub record Notes : Type 0 where
-  pub lead : List Comment
-  pub trail : List Comment
-  pub inner : List Comment
 
 mutual
   -- a kind's number, scalars, slots, comments, and the number of the source node that it comes from

@@ -1,5 +1,7 @@
 -- The plain tree that a `Tree` stands for: one fold.
 use Rattle.std.specs.Prelude.{Bool, false, true, List, [], ◌∷◌, Option, Some, None}
+use Rattle.std.specs.declared.alloc.Global.{Global}
+use Rattle.std.specs.declared.boxed.Box.{Box}
 use Rattle.tree_core.specs.declared.tree.Tree.{Tree, fold-Tree, Tree-F}
 use Rattle.tree_core.specs.declared.tree.Slot.{Slot, fold-Slot}
 use Rattle.tree_core.specs.declared.tree.Slot.TheOpen.{Slot-F}
@@ -27,15 +29,20 @@ abbrev pub slots_of : List Row → Slots
 slots_of [] = no_slots
 slots_of (s ∷ more) = slot s.0 s.1 (slots_of more)
 
+-- what stands in the box, if there is one
+abbrev pub boxed : Option (Box Syntax Global) → Option Syntax
+boxed None = None
+boxed (Some b) = Some b.value
+
 abbrev pub place_step : Place-F Row Spot Syntax → Spot
-place_step p = (p.name, p.node)
+place_step p = (p.name, boxed p.node)
 
 abbrev pub slot_step : Slot-F Row Spot Syntax → Row
 slot_step (Slot-F.Single p) = (false, places_of (p ∷ []))
 slot_step (Slot-F.List ps) = (true, places_of ps)
 
 abbrev pub tree_step : Tree-F Row Spot Syntax → Syntax
-tree_step t = node t.kind t.scalars (slots_of t.slots) (record { lead = t.lead; trail = t.trail; inner = t.inner }) t.from
+tree_step t = node t.kind t.scalars (slots_of t.slots) t.notes t.from
 
 abbrev pub syntax : Tree → Syntax
 syntax = fold-Tree Row Spot Syntax slot_step place_step tree_step

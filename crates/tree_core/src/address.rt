@@ -85,6 +85,6 @@ fn standing(place: &Place) -> Option<&Tree>
 {
     match &place.node {
         None => None,
-        Some(node) => Some(node.get()),
+        Some(node) => Some(node),
     }
 }

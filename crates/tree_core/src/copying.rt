@@ -3,11 +3,11 @@
 ghost use Rattle.std.specs.Prelude.{◌≡◌, IfOk};
 ghost use Rattle.tree_core.specs.View.{syntax, slot_view, place_view};
 
-use crate::comment::{Comment, Comments};
+use crate::comment::{Comment, Comments, Notes};
 use crate::scalars::{Scalar, Scalars};
 use crate::tree::{Place, Slot, Tree};
 use crate::units::Units;
-use sqlite_items::{Boxed, Items};
+use sqlite_items::Items;
 use std::alloc::{AllocError, Global};
 
 /// An equal tree, with the same numbers and place names.
@@ -23,9 +23,7 @@ pub fn copy(alloc: Global, tree: &Tree) -> Result<Tree, AllocError>
         kind: tree.kind,
         scalars: copy_scalars(alloc, &tree.scalars)?,
         slots,
-        lead: copy_comments(alloc, &tree.lead)?,
-        trail: copy_comments(alloc, &tree.trail)?,
-        inner: copy_comments(alloc, &tree.inner)?,
+        notes: copy_notes(alloc, &tree.notes)?,
         from: tree.from,
     })
 }
@@ -52,7 +50,7 @@ fn copy_place(alloc: Global, place: &Place) -> Result<Place, AllocError>
 {
     let node = match &place.node {
         None => None,
-        Some(node) => Some(Boxed::new(alloc, copy(alloc, node.get())?)?),
+        Some(node) => Some(Box::new(alloc, copy(alloc, node)?)?),
     };
     Ok(Place {
         name: place.name,
@@ -60,11 +58,23 @@ fn copy_place(alloc: Global, place: &Place) -> Result<Place, AllocError>
     })
 }
 
-fn copy_comments(alloc: Global, comments: &Comments) -> Result<Comments, AllocError>
+fn copy_notes(alloc: Global, notes: &Notes) -> Result<Notes, AllocError>
+    ensures { IfOk result (λ copied. copied ≡ notes.now) }
+{
+    Notes::new(
+        alloc,
+        copy_comments(alloc, notes.lead())?,
+        copy_comments(alloc, notes.trail())?,
+        copy_comments(alloc, notes.inner())?,
+    )
+}
+
+/// An equal list of comments.
+pub fn copy_comments(alloc: Global, comments: &[Comment]) -> Result<Comments, AllocError>
     ensures { IfOk result (λ copied. copied ≡ comments.now) }
 {
     let mut copied = Items::new(alloc);
-    for comment in comments.as_slice() {
+    for comment in comments {
         copied.push(Comment {
             block: comment.block,
             text: copy_units(alloc, &comment.text)?,
@@ -87,7 +97,8 @@ fn copy_scalars(alloc: Global, scalars: &Scalars) -> Result<Scalars, AllocError>
     Ok(copied)
 }
 
-fn copy_scalar(alloc: Global, scalar: &Scalar) -> Result<Scalar, AllocError>
+/// An equal scalar.
+pub fn copy_scalar(alloc: Global, scalar: &Scalar) -> Result<Scalar, AllocError>
     ensures { IfOk result (λ copied. copied ≡ scalar.now) }
 {
     match scalar {

@@ -42,6 +42,6 @@ fn place_height(place: &Place) -> u32
 {
     match &place.node {
         None => 0,
-        Some(node) => height(node.get()),
+        Some(node) => height(node),
     }
 }

@@ -19,8 +19,8 @@ mod tree;
 mod units;
 
 pub use address::{Address, Steps32, at};
-pub use comment::{Comment, Comments};
-pub use copying::copy;
+pub use comment::{Comment, Comments, Notes};
+pub use copying::{copy, copy_comments, copy_scalar};
 pub use depth::height;
 pub use lists::{Bytes, Name, Names, Numbers, Truths};
 pub use sameness::same;

@@ -5,7 +5,7 @@ ghost use Rattle.std.specs.Prelude.{◌≡◌, ◌↔◌, IsTrue, [], ◌∷◌,
 ghost use Rattle.tree_core.specs.Bare.{bare, bare_slots, bare_places};
 ghost use Rattle.tree_core.specs.View.{syntax, slot_view, place_view, slots_of, places_of};
 
-use crate::comment::{Comment, Comments};
+use crate::comment::{Comment, Notes};
 use crate::scalars::{Scalar, Scalars};
 use crate::tree::{Place, Slot, Tree};
 
@@ -18,13 +18,7 @@ pub fn same(a: &Tree, b: &Tree) -> bool
     if a.kind != b.kind || !same_scalars(&a.scalars, &b.scalars) {
         return false;
     }
-    if !same_comments(&a.lead, &b.lead)
-        || !same_comments(&a.trail, &b.trail)
-        || !same_comments(&a.inner, &b.inner)
-    {
-        return false;
-    }
-    same_slots(a.slots.as_slice(), b.slots.as_slice())
+    same_notes(&a.notes, &b.notes) && same_slots(a.slots.as_slice(), b.slots.as_slice())
 }
 
 #[cycle(same)]
@@ -74,18 +68,25 @@ fn same_place(a: &Place, b: &Place) -> bool
 {
     match (&a.node, &b.node) {
         (None, None) => true,
-        (Some(a), Some(b)) => same(a.get(), b.get()),
+        (Some(a), Some(b)) => same(a, b),
         _ => false,
     }
 }
 
-fn same_comments(a: &Comments, b: &Comments) -> bool
+fn same_notes(a: &Notes, b: &Notes) -> bool
+    ensures { IsTrue result ↔ (a.now ≡ b.now) }
+{
+    same_comments(a.lead(), b.lead())
+        && same_comments(a.trail(), b.trail())
+        && same_comments(a.inner(), b.inner())
+}
+
+fn same_comments(a: &[Comment], b: &[Comment]) -> bool
     ensures { IsTrue result ↔ (a.now ≡ b.now) }
 {
     if a.len() != b.len() {
         return false;
     }
-    let (a, b) = (a.as_slice(), b.as_slice());
     for at in 0..a.len() {
         if !same_comment(&a[at], &b[at]) {
             return false;

@@ -7,14 +7,14 @@ use std::test::Fail;
 fn leaf(alloc: Global, kind: u8) -> Result<Place, AllocError> {
     let text = Units::new(vec![in alloc; 97]?);
     let scalars = Scalars::one(Scalar::Text(text));
-    Place::filled(alloc, Tree::new(alloc, kind, scalars, Items::new(alloc)))
+    Place::filled(alloc, Tree::new(kind, scalars, Items::new(alloc)))
 }
 
 // A place with a node of kind 3 over one of kind 4.
 fn branch(alloc: Global) -> Result<Place, AllocError> {
     let mut slots = Items::new(alloc);
     slots.push(Slot::single(leaf(alloc, 4)?))?;
-    Place::filled(alloc, Tree::new(alloc, 3, Scalars::new(), slots))
+    Place::filled(alloc, Tree::new(3, Scalars::new(), slots))
 }
 
 fn list(alloc: Global) -> Result<Slot, AllocError> {
@@ -34,7 +34,7 @@ fn sample(alloc: Global) -> Result<Tree, AllocError> {
     let mut slots = Items::new(alloc);
     slots.push(Slot::single(leaf(alloc, 1)?))?;
     slots.push(list(alloc)?)?;
-    Ok(Tree::new(alloc, 10, Scalars::new(), slots))
+    Ok(Tree::new(10, Scalars::new(), slots))
 }
 
 #[test]

@@ -4,9 +4,9 @@ ghost use Rattle.std.specs.Prelude.{◌≡◌, [], ◌∷◌, ◌++◌, map, Som
 ghost use Rattle.tree_core.specs.Syntax.{node, no_slots};
 ghost use Rattle.tree_core.specs.View.{syntax, slot_view, place_view, places_of, slots_of};
 
-use crate::comment::Comments;
+use crate::comment::Notes;
 use crate::scalars::Scalars;
-use sqlite_items::{Boxed, Items};
+use sqlite_items::Items;
 use std::alloc::{AllocError, Global};
 
 /// The name of a place of the source: its node's number, and its number among that node's places.
@@ -25,12 +25,7 @@ pub struct Tree {
     pub scalars: Scalars,
     /// In the order of the kind's fields.
     pub slots: Items<Slot>,
-    /// The comments before the node.
-    pub lead: Comments,
-    /// The comments after the node.
-    pub trail: Comments,
-    /// The comments inside the node that stand beside no child.
-    pub inner: Comments,
+    pub notes: Notes,
     /// The number of the node of the source that it is or comes from.
     pub from: Option<u32>,
 }
@@ -48,7 +43,7 @@ pub enum Slot {
 #[derive(Drop)]
 pub struct Place {
     pub name: Option<PlaceName>,
-    pub node: Option<Boxed<Tree>>,
+    pub node: Option<Box<Tree>>,
 }
 
 impl Place {
@@ -58,7 +53,7 @@ impl Place {
     {
         Ok(Place {
             name: None,
-            node: Some(Boxed::new(alloc, node)?),
+            node: Some(Box::new(alloc, node)?),
         })
     }
 }
@@ -81,16 +76,14 @@ impl Slot {
 
 impl Tree {
     /// A node without comments and without a number.
-    pub fn new(alloc: Global, kind: u8, scalars: Scalars, slots: Items<Slot>) -> Tree
+    pub fn new(kind: u8, scalars: Scalars, slots: Items<Slot>) -> Tree
         ensures { syntax result ≡ node kind scalars (slots_of (map slot_view slots)) (record { lead = []; trail = []; inner = [] }) None }
     {
         Tree {
             kind,
             scalars,
             slots,
-            lead: Items::new(alloc),
-            trail: Items::new(alloc),
-            inner: Items::new(alloc),
+            notes: Notes::none(),
             from: None,
         }
     }

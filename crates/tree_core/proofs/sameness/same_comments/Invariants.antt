@@ -2,4 +2,4 @@ use Rattle.std.proofs.Common.{◌≡◌, take}
 use Rattle.tree_core.proofs.sameness.same_comments.Given as goal
 
 abbrev pub invariant-loop-at : goal.invariant-loop-at
-invariant-loop-at l = take l.at l.a-2 ≡ take l.at l.b-2
+invariant-loop-at l = take l.at l.a ≡ take l.at l.b
