@@ -2,9 +2,9 @@
 
 ghost use Rattle.std.specs.Prelude.{◌≡◌, ◌<◌, length};
 
-use node_arena::{Arena, NodeId, copy_comments, copy_scalar};
+use node_arena::{Arena, NodeId};
 use std::alloc::{AllocError, Global};
-use tree_core::{Scalars, Tree};
+use tree_core::{Scalars, Tree, copy_comments, copy_scalar};
 use type_defs::scalar_count;
 
 /// Lets a node say what the tree's first node says.
@@ -15,9 +15,9 @@ pub fn say(alloc: Global, arena: &mut Arena, node: NodeId, tree: &Tree) -> Resul
     if let Some(from) = tree.from {
         arena.set_source(node, from);
     }
-    let lead = copy_comments(alloc, &tree.lead)?;
-    let trail = copy_comments(alloc, &tree.trail)?;
-    let inner = copy_comments(alloc, &tree.inner)?;
+    let lead = copy_comments(alloc, tree.notes.lead())?;
+    let trail = copy_comments(alloc, tree.notes.trail())?;
+    let inner = copy_comments(alloc, tree.notes.inner())?;
     arena.set_comments(node, lead, trail, inner);
     say_scalars(alloc, arena, node, &tree.scalars)
 }

@@ -7,10 +7,10 @@ ghost use Rattle.tree_core.specs.View.{place_view, places_of, slot_view, syntax}
 
 use crate::fault::UnloadFault;
 use crate::saying::scalars_of;
-use node_arena::{Arena, NodeId, PlaceId, copy_comments};
-use sqlite_items::{Boxed, Items};
-use std::alloc::Global;
-use tree_core::{Address, Place, Slot, Steps32, Tree};
+use node_arena::{Arena, NodeId, PlaceId};
+use sqlite_items::Items;
+use std::alloc::{AllocError, Global};
+use tree_core::{Address, Notes, Place, Slot, Steps32, Tree, copy_comments};
 use type_defs::{is_list, slot_count};
 
 /// The greatest depth of a node that is unloaded, the first node having depth 1.
@@ -66,11 +66,21 @@ fn unload_node(
         kind: arena.kind(node),
         scalars: scalars_of(alloc, arena, node)?,
         slots,
-        lead: copy_comments(alloc, arena.lead(node))?,
-        trail: copy_comments(alloc, arena.trail(node))?,
-        inner: copy_comments(alloc, arena.inner(node))?,
+        notes: notes_of(alloc, arena, node)?,
         from: arena.from_of(node),
     })
+}
+
+/// The comments of a node.
+fn notes_of(alloc: Global, arena: &Arena, node: NodeId) -> Result<Notes, AllocError>
+    requires at { node < length arena.now.forest.nodes }
+{
+    Notes::new(
+        alloc,
+        copy_comments(alloc, arena.lead(node).as_slice())?,
+        copy_comments(alloc, arena.trail(node).as_slice())?,
+        copy_comments(alloc, arena.inner(node).as_slice())?,
+    )
 }
 
 /// The slot of this number of a node. The children before it are counted.
@@ -155,6 +165,6 @@ fn unload_place(
     let _child = path.pop();
     Ok(Place {
         name,
-        node: Some(Boxed::new(alloc, tree)?),
+        node: Some(Box::new(alloc, tree)?),
     })
 }

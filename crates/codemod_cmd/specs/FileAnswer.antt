@@ -12,14 +12,13 @@ use Rattle.first_grammar.specs.Spells.{At, Whole, Reads}
 use Rattle.first_grammar.specs.Reading.{max_nesting}
 use Rattle.first_grammar.specs.Parse.{Refused}
 use Rattle.first_grammar.specs.declared.error.ReadError.TheVariants.{Nesting as TooDeep}
-use Rattle.first_grammar.specs.Numbers.{numbered}
+use Rattle.tree_core.specs.Numbers.{count, numbered}
 use Rattle.first_rename.specs.Names.{renamed, count_of}
 use Rattle.first_rename.specs.Edits.{Keeps}
 use Rattle.js_lexer.specs.declared.fault.SyntaxKind.{SyntaxKind}
 use Rattle.js_lexer.specs.declared.fault.SyntaxKind.TheVariants.{Unexpected, Nesting, Lex}
 use Rattle.js_tokens.specs.Words.{word_of}
 use Rattle.js_lexer.specs.Cursors.{SpansFit}
-use Rattle.js_source.specs.Sizes.{node_count}
 use Rattle.source_rename.specs.Edits.{patched}
 use Rattle.source_rename.specs.Whole.{all_edits}
 use Rattle.source_rename.specs.Methods.{bad_method}
@@ -62,7 +61,7 @@ IsOther s = (t : Tree) → Reads s t → ⊥
 -- what the reader of the whole language makes of the source
 pub record IsParsed (s : List ℕ) (p : Parsed) : Type 0 where
   pub nesting : height (syntax p.tree) ≤ max_nesting
-  pub counted : length p.spans ≡ node_count (syntax p.tree)
+  pub counted : length p.spans ≡ count (syntax p.tree)
   pub within : SpansFit (length s) p.spans
 
 -- the source has a tree, of the first grammar or of the whole language

@@ -4,4 +4,4 @@ use Rattle.tree_core.specs.Syntax.{Syntax, node, Slots}
 use Rattle.first_grammar.specs.declared.number.Shell.{Shell}
 
 abbrev pub shelled : Shell → Slots → Option ℕ → Syntax
-shelled shell slots from = node shell.kind shell.scalars slots (record { lead = shell.lead; trail = shell.trail; inner = shell.inner }) from
+shelled shell slots from = node shell.kind shell.scalars slots shell.notes from

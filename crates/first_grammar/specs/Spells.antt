@@ -5,7 +5,8 @@ use Rattle.tree_core.specs.declared.scalars.Scalar.{Scalar}
 use Rattle.tree_core.specs.declared.scalars.Scalar.TheVariants as scalar
 use Rattle.tree_core.specs.declared.span.Span.{Span}
 use Rattle.tree_core.specs.declared.tree.PlaceName.{PlaceName}
-use Rattle.tree_core.specs.Syntax.{Syntax, node, Notes}
+use Rattle.tree_core.specs.Notes.{Notes}
+use Rattle.tree_core.specs.Syntax.{Syntax, node}
 use Rattle.tree_core.specs.View.{Spot, Row, slots_of, places_of}
 use Rattle.first_grammar.specs.declared.table.Kind.{Kind}
 use Rattle.first_grammar.specs.declared.table.Word.{Word}

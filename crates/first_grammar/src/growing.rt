@@ -11,7 +11,7 @@ use crate::measured::{Children, Grown, Parts};
 use crate::table::{Kind, fixed, number};
 use sqlite_items::Items;
 use std::alloc::{AllocError, Global};
-use tree_core::{Place, Scalar, Scalars, Slot, Tree, Units};
+use tree_core::{Notes, Place, Scalar, Scalars, Slot, Tree, Units};
 
 impl Children {
     pub fn new(alloc: Global) -> Children
@@ -112,9 +112,7 @@ impl Parts {
             kind: number(kind),
             scalars: fixed(alloc, kind)?.append(alloc, scalars)?,
             slots,
-            lead: Items::new(alloc),
-            trail: Items::new(alloc),
-            inner: Items::new(alloc),
+            notes: Notes::none(),
             from: Some(from),
         };
         let levels = levels + 1;

@@ -6,9 +6,9 @@ ghost use Rattle.tree_core.specs.View.{syntax, slot_view, place_view, slots_of, 
 ghost use Rattle.first_grammar.specs.Numbers as spec;
 ghost use Rattle.first_grammar.specs.Shelled.{shelled};
 
-use sqlite_items::{Boxed, Items};
+use sqlite_items::Items;
 use std::alloc::{AllocError, Global};
-use tree_core::{Comments, Place, PlaceName, Scalars, Slot, Span, Spans, Tree};
+use tree_core::{Notes, Place, PlaceName, Scalars, Slot, Span, Spans, Tree};
 
 /// The most nodes that are numbered.
 const MOST_NODES: usize = 4_194_304;
@@ -66,32 +66,26 @@ fn reversed<T: Drop>(alloc: Global, mut items: Items<T>) -> Result<Items<T>, All
 pub struct Shell {
     pub kind: u8,
     pub scalars: Scalars,
-    pub lead: Comments,
-    pub trail: Comments,
-    pub inner: Comments,
+    pub notes: Notes,
 }
 
 /// A node's shell, its slots and its number. A function of its own, so that no copy of a node lies
 /// on the stack of the recursion.
 #[inline(never)]
-fn opened(tree: Boxed<Tree>) -> (Shell, Items<Slot>, Option<u32>)
-    ensures { syntax tree ≡ shelled result.0 (slots_of (map slot_view result.1)) result.2 }
+fn opened(tree: Box<Tree>) -> (Shell, Items<Slot>, Option<u32>)
+    ensures { syntax tree.value ≡ shelled result.0 (slots_of (map slot_view result.1)) result.2 }
 {
     let Tree {
         kind,
         scalars,
         slots,
-        lead,
-        trail,
-        inner,
+        notes,
         from,
-    } = tree.into_inner();
+    } = Box::into_inner(tree);
     let shell = Shell {
         kind,
         scalars,
-        lead,
-        trail,
-        inner,
+        notes,
     };
     (shell, slots, from)
 }
@@ -103,26 +97,22 @@ fn closed(
     shell: Shell,
     slots: Items<Slot>,
     node: u32,
-) -> Result<Boxed<Tree>, AllocError>
-    ensures { IfOk result (λ t. syntax t ≡ shelled shell (slots_of (map slot_view slots)) (Some node)) }
+) -> Result<Box<Tree>, AllocError>
+    ensures { IfOk result (λ t. syntax t.value ≡ shelled shell (slots_of (map slot_view slots)) (Some node)) }
 {
     let Shell {
         kind,
         scalars,
-        lead,
-        trail,
-        inner,
+        notes,
     } = shell;
     let tree = Tree {
         kind,
         scalars,
         slots,
-        lead,
-        trail,
-        inner,
+        notes,
         from: Some(node),
     };
-    Ok(Boxed::new(alloc, tree)?)
+    Ok(Box::new(alloc, tree)?)
 }
 
 /// The tree with its nodes numbered from the next number on. `spans` are their stretches by the
@@ -136,8 +126,8 @@ pub fn number(
     ensures tree { IfOk result (λ t. syntax t ≡ spec.numbered (length numbered.old) (syntax tree)) }
     ensures spans { IfOk result (λ _. numbered.new ≡ numbered.old ++ spec.spans_of spans.now (syntax tree)) }
 {
-    let tree = number_node(alloc, spans, numbered, Boxed::new(alloc, tree)?)?;
-    Ok(tree.into_inner())
+    let tree = number_node(alloc, spans, numbered, Box::new(alloc, tree)?)?;
+    Ok(Box::into_inner(tree))
 }
 
 /// The node, with all below it.
@@ -146,10 +136,10 @@ fn number_node(
     alloc: Global,
     spans: &[Span],
     numbered: &mut Spans,
-    tree: Boxed<Tree>,
-) -> Result<Boxed<Tree>, AllocError>
-    ensures tree { IfOk result (λ t. syntax t ≡ spec.numbered (length numbered.old) (syntax tree)) }
-    ensures spans { IfOk result (λ _. numbered.new ≡ numbered.old ++ spec.spans_of spans.now (syntax tree)) }
+    tree: Box<Tree>,
+) -> Result<Box<Tree>, AllocError>
+    ensures tree { IfOk result (λ t. syntax t.value ≡ spec.numbered (length numbered.old) (syntax tree.value)) }
+    ensures spans { IfOk result (λ _. numbered.new ≡ numbered.old ++ spec.spans_of spans.now (syntax tree.value)) }
 {
     let (shell, slots, from) = opened(tree);
     let node = next_number(numbered, span_of(spans, from))?;

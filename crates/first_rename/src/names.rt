@@ -54,7 +54,7 @@ fn count_in_place(place: &Place, name: &[u8]) -> u64
 {
     match &place.node {
         None => 0,
-        Some(node) => count(node.get(), name),
+        Some(node) => count(node, name),
     }
 }
 

@@ -76,7 +76,7 @@ fn add_place(
 {
     match &place.node {
         None => Ok(()),
-        Some(node) => add_tree(found, node.get(), spans, name),
+        Some(node) => add_tree(found, node, spans, name),
     }
 }
 

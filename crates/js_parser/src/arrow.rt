@@ -244,7 +244,7 @@ impl<F: Fn(Global, &mut Reader<'_>, u32, Want) -> Result<Grown, Refusal>> Gramma
         if whole.nature.levels > self.depth {
             return Err(reader.cursor.too_deep());
         }
-        reader.marks.mark_grouped(whole.tree.get())?;
+        reader.marks.mark_grouped(&whole.tree)?;
         let nature = whole.nature.enclosed();
         Ok(Grown {
             level: 19,

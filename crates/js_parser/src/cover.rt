@@ -5,7 +5,7 @@ ghost use Rattle.js_parser.specs.Callable.{Convertible};
 ghost use Rattle.js_parser.specs.Seats as spec;
 
 use crate::reader::Marks;
-use sqlite_items::{Boxed, Items};
+use sqlite_items::Items;
 use std::alloc::{AllocError, Global};
 use tree_core::{Place, Scalar, Scalars, Slot, Tree};
 use type_defs::Kind;
@@ -146,8 +146,8 @@ impl<'m, F: Fn(Global, Tree, bool, &Marks, u32, Seat) -> Result<Tree, Unfit>> Tu
         let Some(node) = node else {
             return Ok(Place { name, node: None });
         };
-        let tree = self.turned(Boxed::into_inner(node), seat)?;
-        let node = Some(Boxed::new(self.alloc, tree)?);
+        let tree = self.turned(Box::into_inner(node), seat)?;
+        let node = Some(tree.boxed(self.alloc)?);
         Ok(Place { name, node })
     }
 
@@ -245,7 +245,7 @@ impl<'m, F: Fn(Global, Tree, bool, &Marks, u32, Seat) -> Result<Tree, Unfit>> Tu
     }
 
     fn made(&self, kind: Kind, scalars: Scalars, slots: Items<Slot>, from: Option<u32>) -> Tree {
-        let mut tree = Tree::new(self.alloc, kind.number(), scalars, slots);
+        let mut tree = Tree::new(kind.number(), scalars, slots);
         tree.from = from;
         tree
     }

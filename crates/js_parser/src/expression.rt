@@ -185,7 +185,7 @@ impl<F: Fn(Global, &mut Reader<'_>, u32, Want) -> Result<Grown, Refusal>> Gramma
             return Err(reader.cursor.refuse());
         }
         if reader.cursor.sees_mark(Punctuator::Comma) {
-            reader.marks.mark_comma(spread.tree.get())?;
+            reader.marks.mark_comma(&spread.tree)?;
         }
         Ok(spread)
     }

@@ -46,7 +46,7 @@ fn is_bare_async(grown: &Grown) -> bool {
     if grown.grouped || !grown.is_name() {
         return false;
     }
-    match grown.tree.get().scalars.get(0) {
+    match grown.tree.scalars.get(0) {
         Some(Scalar::Text(units)) => js_tokens::Word::of_units(units.get()) == Word::Async,
         _ => false,
     }

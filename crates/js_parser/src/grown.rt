@@ -4,10 +4,11 @@
 ghost use Rattle.std.specs.Prelude.{◌≡◌, ◌+◌, ◌-◌, ◌^◌, ◌||◌, max, min};
 
 use js_forms::{Form, level, scalars};
-use sqlite_items::{Boxed, Items};
+use sqlite_items::Items;
 use std::alloc::{AllocError, Global};
 use std::mem;
 use tree_core::{Place, Scalar, Scalars, Slot, Tree, Units};
+use type_defs::slot_count;
 
 /// What is kept of trees.
 #[derive(Clone, Copy)]
@@ -73,7 +74,7 @@ impl Nature {
 #[derive(Drop)]
 pub struct Grown {
     /// In a box, so that the recursion moves no nodes about on the stack.
-    pub tree: Boxed<Tree>,
+    pub tree: Box<Tree>,
     pub form: Form,
     /// 19 in grouping parentheses.
     pub level: u8,
@@ -130,7 +131,7 @@ impl Children {
     }
 }
 
-fn filled(tree: Boxed<Tree>) -> Place {
+fn filled(tree: Box<Tree>) -> Place {
     Place {
         name: None,
         node: Some(tree),
@@ -155,9 +156,10 @@ pub struct Parts {
 impl Parts {
     /// Nothing yet but what the form determines.
     pub fn new(alloc: Global, form: Form) -> Result<Parts, AllocError> {
+        let count = slot_count(form.kind().number());
         Ok(Parts {
             scalars: scalars(alloc, form)?,
-            slots: Items::new(alloc),
+            slots: Items::from_vec(Vec::with_capacity(alloc, count)?),
             nature: Nature::none(),
         })
     }
@@ -214,10 +216,10 @@ impl Parts {
             slots,
             nature,
         } = self;
-        let mut tree = Tree::new(alloc, form.kind().number(), scalars, slots);
+        let mut tree = Tree::new(form.kind().number(), scalars, slots);
         tree.from = Some(from);
         Ok(Grown {
-            tree: Boxed::new(alloc, tree)?,
+            tree: tree.boxed(alloc)?,
             form,
             level: level(form),
             grouped: false,

@@ -11,7 +11,6 @@ use crate::want::{Context, Want};
 use js_forms::{Access, Category, Flow, Form, Key, Standing};
 use js_lexer::{Cursor, Refusal};
 use js_tokens::{Punctuator, Token, TokenKind, Word, is_reserved};
-use sqlite_items::Boxed;
 use std::alloc::Global;
 use tree_core::{Scalar, Tree, Units, copy};
 use type_defs::Kind;
@@ -164,7 +163,7 @@ fn is_private_constructor(key: &Tree) -> bool {
 // Whether it is a name that is no reserved word.
 fn is_free_name(key: &Grown) -> bool {
     match key.form {
-        Form::AnyName => match key.tree.get().scalars.get(0) {
+        Form::AnyName => match key.tree.scalars.get(0) {
             Some(Scalar::Text(units)) => !is_reserved(units),
             _ => false,
         },
@@ -294,9 +293,9 @@ impl<F: Fn(Global, &mut Reader<'_>, u32, Want) -> Result<Grown, Refusal>> Gramma
         start: u32,
         name: Grown,
     ) -> Result<(Grown, Grown), Refusal> {
-        let mut tree = copy(self.alloc, name.tree.get())?;
+        let mut tree = copy(self.alloc, &name.tree)?;
         tree.from = Some(reader.cursor.numbered(start)?);
-        let tree = Boxed::new(self.alloc, tree)?;
+        let tree = tree.boxed(self.alloc)?;
         let twin = Grown {
             tree,
             form: Form::Name,
@@ -319,10 +318,10 @@ impl<F: Fn(Global, &mut Reader<'_>, u32, Want) -> Result<Grown, Refusal>> Gramma
         let start = reader.cursor.start();
         let words = take_modifiers(&mut reader.cursor, true);
         let (key, computed) = self.key(reader, context, Category::ClassKey)?;
-        if computed == Key::Plain && is_private_constructor(key.tree.get()) {
+        if computed == Key::Plain && is_private_constructor(&key.tree) {
             return Err(reader.cursor.refuse());
         }
-        let form = member_form(&reader.cursor, words, computed, key.tree.get());
+        let form = member_form(&reader.cursor, words, computed, &key.tree);
         self.filled(reader, form, start, context, Some(key))
     }
 }

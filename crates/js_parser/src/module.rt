@@ -11,7 +11,6 @@ use crate::want::{Context, Want};
 use js_forms::{Category, Form, List, Scope};
 use js_lexer::{Cursor, Refusal};
 use js_tokens::{Punctuator, TokenKind, Word, is_reserved};
-use sqlite_items::Boxed;
 use std::alloc::Global;
 use tree_core::{Place, Scalar, Slot};
 use type_defs::Kind;
@@ -31,7 +30,7 @@ fn specifiers(category: Category) -> List {
 // Whether the name is a reserved word.
 fn is_reserved_name(name: &Place) -> bool {
     match &name.node {
-        Some(node) => match node.get().scalars.get(0) {
+        Some(node) => match node.scalars.get(0) {
             Some(Scalar::Text(units)) => is_reserved(units),
             _ => false,
         },
@@ -42,7 +41,7 @@ fn is_reserved_name(name: &Place) -> bool {
 // Whether the first name of the specifier is a reserved word.
 fn begins_reserved(specifier: &Place) -> bool {
     match &specifier.node {
-        Some(node) => match node.get().slots.get(0) {
+        Some(node) => match node.slots.get(0) {
             Some(Slot::Single(name)) => is_reserved_name(name),
             _ => false,
         },
@@ -296,21 +295,8 @@ impl<F: Fn(Global, &mut Reader<'_>, u32, Want) -> Result<Grown, Refusal>> Gramma
 
     // The same parts as a node of this kind.
     fn of_kind(&self, whole: Grown, kind: Kind) -> Result<Grown, Refusal> {
-        let Grown {
-            tree,
-            form,
-            level,
-            grouped,
-            nature,
-        } = whole;
-        let mut tree = tree.into_inner();
-        tree.kind = kind.number();
-        Ok(Grown {
-            tree: Boxed::new(self.alloc, tree)?,
-            form,
-            level,
-            grouped,
-            nature,
-        })
+        let mut whole = whole;
+        whole.tree.kind = kind.number();
+        Ok(whole)
     }
 }

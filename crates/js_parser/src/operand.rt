@@ -14,7 +14,6 @@ use crate::want::{Context, Want};
 use js_forms::{Category, Flow, Form, Operator, level, parts};
 use js_lexer::{Cursor, Refusal};
 use js_tokens::{Goal, Punctuator, TokenKind, Word};
-use sqlite_items::Boxed;
 use std::alloc::Global;
 
 /// Whether it is an expression with `??`, in no parentheses.
@@ -156,12 +155,12 @@ impl<F: Fn(Global, &mut Reader<'_>, u32, Want) -> Result<Grown, Refusal>> Gramma
         } = cover;
         let pattern = crate::cover::to_pattern(
             self.alloc,
-            tree.into_inner(),
+            Box::into_inner(tree),
             binding,
             &reader.marks,
         );
         let tree = match pattern {
-            Ok(tree) => Boxed::new(self.alloc, tree)?,
+            Ok(tree) => tree.boxed(self.alloc)?,
             Err(crate::cover::Unfit::NoMemory) => return Err(Refusal::NoMemory),
             Err(crate::cover::Unfit::NoPattern) => return Err(reader.cursor.refuse()),
         };

@@ -73,7 +73,7 @@ fn read_from(
     read.push_list(body)?;
     let whole = grammar.finish(&mut reader, Form::Program, from, read)?;
     Ok(Read {
-        tree: whole.tree.into_inner(),
+        tree: Box::into_inner(whole.tree),
         cursor: reader.cursor,
         quasis: reader.quasis,
     })

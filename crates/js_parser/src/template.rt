@@ -70,7 +70,7 @@ impl<F: Fn(Global, &mut Reader<'_>, u32, Want) -> Result<Grown, Refusal>> Gramma
         let text = units(self.alloc, raw, true)?;
         reader.cursor.take();
         let quasi = self.over_text(reader, Form::TemplateElement, start, text)?;
-        if let Some(number) = quasi.tree.get().from {
+        if let Some(number) = quasi.tree.from {
             reader.quasis.push(Quasi { number, last })?;
         }
         Ok((quasi, last))

@@ -1,19 +1,6 @@
--- How many nodes and places a tree has.
+-- How many places a tree has.
 use Rattle.std.specs.Prelude.{ℕ, ◌+◌}
 use Rattle.tree_core.specs.Syntax.{Syntax, node, Slots, no_slots, slot, Places, no_places, hole, place}
-
-abbrev mutual
-  pub node_count : Syntax → ℕ
-  node_count (node kind scalars slots notes from) = 1 + slots_nodes slots
-
-  pub slots_nodes : Slots → ℕ
-  slots_nodes no_slots = 0
-  slots_nodes (slot list places more) = places_nodes places + slots_nodes more
-
-  pub places_nodes : Places → ℕ
-  places_nodes no_places = 0
-  places_nodes (hole name more) = places_nodes more
-  places_nodes (place name t more) = node_count t + places_nodes more
 
 abbrev mutual
   -- the places of the tree's first node and of all nodes below it, empty ones too

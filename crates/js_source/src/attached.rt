@@ -1,9 +1,10 @@
 //! Which comments of a source go to which node.
 
+use crate::seating::Laid;
 use js_tokens::{byte_at, units};
 use sqlite_items::Items;
 use std::alloc::{AllocError, Global};
-use tree_core::{Comment, Comments, Span};
+use tree_core::{Comment, Comments, Notes, Span};
 
 /// Where comments go: before a node, after it, or inside it beside no child.
 #[derive(Clone, Copy, Debug, PartialEq, Eq)]
@@ -13,12 +14,12 @@ pub enum Side {
     Inner,
 }
 
-/// The comments of the source from one up to another, which go to one side of a node.
+// The comments of the source from one up to another, which go to one side of a node.
 #[derive(Clone, Copy, Debug)]
-pub struct Run {
-    pub side: Side,
-    pub from: usize,
-    pub to: usize,
+struct Run {
+    side: Side,
+    from: usize,
+    to: usize,
     // One more than the place of another run of the same node; 0 where there is none.
     more: usize,
 }
@@ -78,15 +79,15 @@ impl Attached {
         self.runs.get(place - 1).copied()
     }
 
-    /// The node's last run.
-    pub fn of_node(&self, node: Option<u32>) -> Option<Run> {
+    // The node's last run.
+    fn of_node(&self, node: Option<u32>) -> Option<Run> {
         let number = node?;
         let place = self.last.get(number as usize)?;
         self.run(*place)
     }
 
-    /// Another run of the same node.
-    pub fn another(&self, run: Run) -> Option<Run> {
+    // Another run of the same node.
+    fn another(&self, run: Run) -> Option<Run> {
         self.run(run.more)
     }
 }
@@ -104,16 +105,42 @@ fn comment(alloc: Global, text: &[u8], span: Span) -> Result<Comment, AllocError
     })
 }
 
-/// The comments of the run.
-pub fn comments(
-    alloc: Global,
-    text: &[u8],
-    spans: &[Span],
-    run: Run,
-) -> Result<Comments, AllocError> {
+// The comments of the run.
+fn comments(alloc: Global, text: &[u8], spans: &[Span], run: Run) -> Result<Comments, AllocError> {
     let mut all = Items::new(alloc);
     for at in run.from..run.to.min(spans.len()) {
         all.push(comment(alloc, text, spans[at])?)?;
     }
     Ok(all)
+}
+
+/// The comments of the node with this number.
+pub fn notes_of(
+    alloc: Global,
+    laid: Laid<'_>,
+    attached: &Attached,
+    node: Option<u32>,
+) -> Result<Notes, AllocError> {
+    let mut next = attached.of_node(node);
+    if next.is_none() {
+        return Ok(Notes::none());
+    }
+    let (mut lead, mut trail, mut inner) = (
+        Items::new(alloc),
+        Items::new(alloc),
+        Items::new(alloc),
+    );
+    for _turn in 0..3 {
+        let Some(run) = next else {
+            break;
+        };
+        let all = comments(alloc, laid.source.bytes(), laid.comments, run)?;
+        match run.side {
+            Side::Lead => lead = all,
+            Side::Trail => trail = all,
+            Side::Inner => inner = all,
+        }
+        next = attached.another(run);
+    }
+    Notes::new(alloc, lead, trail, inner)
 }

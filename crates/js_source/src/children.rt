@@ -61,7 +61,7 @@ fn standing(tree: &Tree, number: usize) -> Option<&Tree> {
         let places = places(slot);
         if left < places.len() {
             return match &places[left].node {
-                Some(node) => Some(node.get()),
+                Some(node) => Some(node),
                 None => None,
             };
         }

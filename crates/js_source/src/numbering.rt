@@ -1,17 +1,18 @@
 //! Numbers the nodes of a tree in preorder, names its places, and gives its nodes their comments.
 
-ghost use Rattle.std.specs.Prelude.{◌≡◌, ◌+◌, ◌<◌, ◌≤◌, [], ◌∷◌, length, map, Some, IfOk};
-ghost use Rattle.tree_core.specs.Height.{height, slots_height, places_height};
-ghost use Rattle.tree_core.specs.View.{syntax, slot_view, place_view, slots_of, places_of};
+ghost use Rattle.std.specs.Prelude.{◌≡◌, ◌+◌, ◌<◌, ◌≤◌, [], ◌∷◌, ◌++◌, length, map, IfOk};
 ghost use Rattle.js_lexer.specs.Cursors.{SpanFits, SpansFit};
-ghost use Rattle.js_source.specs.Sizes.{node_count, slots_nodes, places_nodes, place_count, slots_places, all_places};
+ghost use Rattle.js_source.specs.Nested.{Grows, Lies, Nested, PlacesNested, SlotsNested, whole};
+ghost use Rattle.js_source.specs.Sizes.{all_places, place_count, slots_places};
+ghost use Rattle.tree_core.specs.Height.{height, places_height, slots_height};
+ghost use Rattle.tree_core.specs.Numbers.{count, numbered, numbered_places, numbered_slots, places_count, places_length, slots_count};
+ghost use Rattle.tree_core.specs.View.{place_view, places_of, slot_view, slots_of, syntax};
 
-use crate::attached::{Attached, Side, comments};
+use crate::attached::{Attached, notes_of};
 use crate::seating::Laid;
 use crate::waiting::Waiting;
-use sqlite_items::{Boxed, Items};
+use sqlite_items::Items;
 use std::alloc::{AllocError, Global};
-use std::mem;
 use tree_core::{Place, PlaceName, Slot, Span, Spans, Tree};
 
 /// The most nodes that are numbered.
@@ -28,9 +29,9 @@ pub struct Given<'a> {
     pub attached: &'a Attached,
 }
 
-/// What is numbered so far.
+/// What is numbered so far: the stretches of the nodes by number, and how many places.
 #[derive(Drop)]
-pub struct Numbered {
+pub struct Numbering {
     len: u32,
     spans: Spans,
     places: u32,
@@ -39,22 +40,41 @@ pub struct Numbered {
     ghost bounded: { places < 67108864 },
 }
 
-// The stretch within a text of this length.
-fn fitted(span: Span, len: u32) -> Span
-    ensures { SpanFits len result }
+/// A node whose children are numbered.
+#[derive(Clone, Copy)]
+struct Parent {
+    number: u32,
+    span: Span,
+}
+
+// The part of the stretch that lies within the outer one. The reader gives none that does not.
+fn within(span: Span, outer: Span) -> Span
+    requires { outer.start ≤ outer.end }
+    ensures { Lies outer result }
 {
-    let end = span.end.min(len);
+    let start = span.start.max(outer.start).min(outer.end);
     Span {
-        start: span.start.min(end),
-        end,
+        start,
+        end: span.end.min(outer.end).max(start),
     }
 }
 
-impl Numbered {
+fn next_child(child: u32) -> Result<u32, AllocError>
+    ensures { IfOk result (λ next. next ≡ child + 1) }
+{
+    if child == u32::MAX {
+        return Err(AllocError);
+    }
+    Ok(child + 1)
+}
+
+impl Numbering {
     // The next number, for a node with this stretch.
-    fn give(&mut self, span: Span) -> Result<u32, AllocError>
-        ensures number { IfOk result (λ n. n ≡ length self.old.spans) }
-        ensures one { IfOk result (λ n. length self.new.spans ≡ length self.old.spans + 1) }
+    fn give(&mut self, span: Span, outer: Span) -> Result<Parent, AllocError>
+        requires outer { SpanFits self.old.len outer }
+        ensures number { IfOk result (λ given. given.number ≡ length self.old.spans) }
+        ensures spans { IfOk result (λ given. self.new.spans ≡ self.old.spans ++ given.span ∷ []) }
+        ensures lies { IfOk result (λ given. Lies outer given.span) }
         ensures places { self.new.places ≡ self.old.places }
         ensures len { self.new.len ≡ self.old.len }
     {
@@ -62,9 +82,12 @@ impl Numbered {
         if number >= MOST_NODES {
             return Err(AllocError);
         }
-        let len = self.len;
-        self.spans.push(fitted(span, len))?;
-        Ok(number as u32)
+        let span = within(span, outer);
+        self.spans.push(span)?;
+        Ok(Parent {
+            number: number as u32,
+            span,
+        })
     }
 
     // Counts one more place.
@@ -81,145 +104,99 @@ impl Numbered {
     }
 }
 
-// Gives the node its comments, by the number that it had.
-fn commented(given: &Given<'_>, tree: &mut Tree) -> Result<(), AllocError> {
-    let text = given.laid.source.bytes();
-    let mut next = given.attached.of_node(tree.from);
-    for _turn in 0..3 {
-        let Some(run) = next else {
-            return Ok(());
-        };
-        let all = comments(given.alloc, text, given.laid.comments, run)?;
-        match run.side {
-            Side::Lead => tree.lead = all,
-            Side::Trail => tree.trail = all,
-            Side::Inner => tree.inner = all,
-        }
-        next = given.attached.another(run);
-    }
-    Ok(())
-}
-
-// The node without its slots, these, and its new number. A function of its own, so that no copy of a
-// node lies on the stack of the recursion.
-#[inline(never)]
-fn opened(
-    given: &Given<'_>,
-    numbered: &mut Numbered,
-    tree: Boxed<Tree>,
-) -> Result<(Tree, Items<Slot>, u32), AllocError>
-    ensures number { IfOk result (λ r. r.2 ≡ length numbered.old.spans) }
-    ensures one { IfOk result (λ r. length numbered.new.spans ≡ length numbered.old.spans + 1) }
-    ensures places { numbered.new.places ≡ numbered.old.places }
-    ensures len { numbered.new.len ≡ numbered.old.len }
-{
-    let mut tree = tree.into_inner();
-    let slots = mem::replace(&mut tree.slots, Items::new(given.alloc));
-    let number = numbered.give(given.laid.span_of(tree.from))?;
-    commented(given, &mut tree)?;
-    Ok((tree, slots, number))
-}
-
-// The node with these slots and this number.
-#[inline(never)]
-fn closed(
-    alloc: Global,
-    mut tree: Tree,
-    slots: Items<Slot>,
-    number: u32,
-) -> Result<Boxed<Tree>, AllocError>
-    ensures nodes { IfOk result (λ t. node_count (syntax t) ≡ 1 + slots_nodes (slots_of (map slot_view slots))) }
-    ensures places { IfOk result (λ t. place_count (syntax t) ≡ slots_places (slots_of (map slot_view slots))) }
-    ensures height { IfOk result (λ t. height (syntax t) ≡ 1 + slots_height (slots_of (map slot_view slots))) }
-    ensures number { IfOk result (λ t. t.from ≡ Some number) }
-{
-    tree.slots = slots;
-    tree.from = Some(number);
-    Boxed::new(alloc, tree)
-}
-
-// The node, with no more than `depth` levels. The reader gives no tree that is higher than its limit.
+// The node with all below it, with no more than `depth` levels. The reader gives no tree that is
+// higher than its limit.
 #[cycle(numbering)]
 #[inline(never)]
 fn number_node(
     given: &Given<'_>,
-    numbered: &mut Numbered,
+    numbers: &mut Numbering,
     waiting: &mut Waiting,
     depth: u32,
-    tree: Boxed<Tree>,
-) -> Result<Boxed<Tree>, AllocError>
-    ensures nodes { IfOk result (λ t. length numbered.new.spans ≡ length numbered.old.spans + node_count (syntax t)) }
-    ensures places { IfOk result (λ t. numbered.new.places ≡ numbered.old.places + place_count (syntax t)) }
-    ensures low { IfOk result (λ t. height (syntax t) ≤ depth) }
-    ensures number { IfOk result (λ t. t.from ≡ Some (length numbered.old.spans)) }
-    ensures len { numbered.new.len ≡ numbered.old.len }
+    outer: Span,
+    tree: &mut Tree,
+) -> Result<(), AllocError>
+    requires outer { SpanFits numbers.old.len outer }
+    ensures numbers { IfOk result (λ _. syntax tree.new ≡ numbered (length numbers.old.spans) (syntax tree.new)) }
+    ensures nodes { IfOk result (λ _. length numbers.new.spans ≡ length numbers.old.spans + count (syntax tree.new)) }
+    ensures grows { IfOk result (λ _. Grows numbers.old.spans numbers.new.spans) }
+    ensures nested { IfOk result (λ _. Nested numbers.new.spans outer (syntax tree.new)) }
+    ensures places { IfOk result (λ _. numbers.new.places ≡ numbers.old.places + place_count (syntax tree.new)) }
+    ensures low { IfOk result (λ _. height (syntax tree.new) ≤ depth) }
+    ensures len { numbers.new.len ≡ numbers.old.len }
 {
     if depth == 0 {
         return Err(AllocError);
     }
-    let (tree, slots, number) = opened(given, numbered, tree)?;
-    let slots = number_slots(given, numbered, waiting, depth - 1, number, slots)?;
-    closed(given.alloc, tree, slots, number)
+    let from = tree.from;
+    let parent = numbers.give(given.laid.span_of(from), outer)?;
+    tree.notes = notes_of(given.alloc, given.laid, given.attached, from)?;
+    tree.from = Some(parent.number);
+    number_slots(given, numbers, waiting, depth - 1, parent, &mut tree.slots)
 }
 
-// The slots of the node.
+// The slots of the parent.
 #[cycle(numbering)]
 #[inline(never)]
 fn number_slots(
     given: &Given<'_>,
-    numbered: &mut Numbered,
+    numbers: &mut Numbering,
     waiting: &mut Waiting,
     depth: u32,
-    node: u32,
-    slots: Items<Slot>,
-) -> Result<Items<Slot>, AllocError>
-    ensures nodes { IfOk result (λ all. length numbered.new.spans ≡ length numbered.old.spans + slots_nodes (slots_of (map slot_view all))) }
-    ensures places { IfOk result (λ all. numbered.new.places ≡ numbered.old.places + slots_places (slots_of (map slot_view all))) }
-    ensures low { IfOk result (λ all. slots_height (slots_of (map slot_view all)) ≤ depth) }
-    ensures len { numbered.new.len ≡ numbered.old.len }
+    parent: Parent,
+    slots: &mut Items<Slot>,
+) -> Result<(), AllocError>
+    requires outer { SpanFits numbers.old.len parent.span }
+    ensures numbers { IfOk result (λ _. slots_of (map slot_view slots.new) ≡ numbered_slots parent.number 0 (length numbers.old.spans) (slots_of (map slot_view slots.new))) }
+    ensures nodes { IfOk result (λ _. length numbers.new.spans ≡ length numbers.old.spans + slots_count (slots_of (map slot_view slots.new))) }
+    ensures grows { IfOk result (λ _. Grows numbers.old.spans numbers.new.spans) }
+    ensures nested { IfOk result (λ _. SlotsNested numbers.new.spans parent.span (slots_of (map slot_view slots.new))) }
+    ensures places { IfOk result (λ _. numbers.new.places ≡ numbers.old.places + slots_places (slots_of (map slot_view slots.new))) }
+    ensures low { IfOk result (λ _. slots_height (slots_of (map slot_view slots.new)) ≤ depth) }
+    ensures len { numbers.new.len ≡ numbers.old.len }
 {
-    let mut slots = slots;
     let count = slots.len();
-    waiting.take_slots(&mut slots)?;
+    waiting.take_slots(slots)?;
     let mut child = 0;
     for _turn in 0..count {
         let Some(slot) = waiting.next_slot() else {
-            return Ok(slots);
+            return Ok(());
         };
-        let (slot, next) = number_slot(given, numbered, waiting, depth, node, child, slot)?;
+        let mut slot = slot;
+        child = number_slot(given, numbers, waiting, depth, parent, child, &mut slot)?;
         slots.push(slot)?;
-        child = next;
     }
-    Ok(slots)
+    Ok(())
 }
 
-// A slot whose first place is this child, and the number of the next child.
+// A slot whose first place is this child of the parent, and the number of the next child.
 #[cycle(numbering)]
 fn number_slot(
     given: &Given<'_>,
-    numbered: &mut Numbered,
+    numbers: &mut Numbering,
     waiting: &mut Waiting,
     depth: u32,
-    node: u32,
+    parent: Parent,
     child: u32,
-    slot: Slot,
-) -> Result<(Slot, u32), AllocError>
-    ensures nodes { IfOk result (λ r. length numbered.new.spans ≡ length numbered.old.spans + places_nodes (slot_view r.0).1) }
-    ensures places { IfOk result (λ r. numbered.new.places ≡ numbered.old.places + all_places (slot_view r.0).1) }
-    ensures low { IfOk result (λ r. places_height (slot_view r.0).1 ≤ depth) }
-    ensures len { numbered.new.len ≡ numbered.old.len }
+    slot: &mut Slot,
+) -> Result<u32, AllocError>
+    requires outer { SpanFits numbers.old.len parent.span }
+    ensures child { IfOk result (λ next. next ≡ child + places_length (slot_view slot.new).1) }
+    ensures numbers { IfOk result (λ _. (slot_view slot.new).1 ≡ numbered_places parent.number child (length numbers.old.spans) (slot_view slot.new).1) }
+    ensures nodes { IfOk result (λ _. length numbers.new.spans ≡ length numbers.old.spans + places_count (slot_view slot.new).1) }
+    ensures grows { IfOk result (λ _. Grows numbers.old.spans numbers.new.spans) }
+    ensures nested { IfOk result (λ _. PlacesNested numbers.new.spans parent.span (slot_view slot.new).1) }
+    ensures places { IfOk result (λ _. numbers.new.places ≡ numbers.old.places + all_places (slot_view slot.new).1) }
+    ensures low { IfOk result (λ _. places_height (slot_view slot.new).1 ≤ depth) }
+    ensures len { numbers.new.len ≡ numbers.old.len }
 {
     match slot {
         Slot::Single(place) => {
-            let name = PlaceName { node, child };
-            let place = number_place(given, numbered, waiting, depth, name, place)?;
-            Ok((Slot::Single(place), child.saturating_add(1)))
+            number_place(given, numbers, waiting, depth, parent, child, place)?;
+            next_child(child)
         }
         Slot::List(places) => {
-            let (places, next) = number_places(
-                given, numbered, waiting, depth, node, child, places,
-            )?;
-            Ok((Slot::List(places), next))
+            number_places(given, numbers, waiting, depth, parent, child, places)
         }
     }
 }
@@ -229,79 +206,88 @@ fn number_slot(
 #[inline(never)]
 fn number_places(
     given: &Given<'_>,
-    numbered: &mut Numbered,
+    numbers: &mut Numbering,
     waiting: &mut Waiting,
     depth: u32,
-    node: u32,
-    child: u32,
-    places: Items<Place>,
-) -> Result<(Items<Place>, u32), AllocError>
-    ensures nodes { IfOk result (λ r. length numbered.new.spans ≡ length numbered.old.spans + places_nodes (places_of (map place_view r.0))) }
-    ensures places { IfOk result (λ r. numbered.new.places ≡ numbered.old.places + all_places (places_of (map place_view r.0))) }
-    ensures low { IfOk result (λ r. places_height (places_of (map place_view r.0)) ≤ depth) }
-    ensures len { numbered.new.len ≡ numbered.old.len }
+    parent: Parent,
+    first: u32,
+    places: &mut Items<Place>,
+) -> Result<u32, AllocError>
+    requires outer { SpanFits numbers.old.len parent.span }
+    ensures child { IfOk result (λ next. next ≡ first + places_length (places_of (map place_view places.new))) }
+    ensures numbers { IfOk result (λ _. places_of (map place_view places.new) ≡ numbered_places parent.number first (length numbers.old.spans) (places_of (map place_view places.new))) }
+    ensures nodes { IfOk result (λ _. length numbers.new.spans ≡ length numbers.old.spans + places_count (places_of (map place_view places.new))) }
+    ensures grows { IfOk result (λ _. Grows numbers.old.spans numbers.new.spans) }
+    ensures nested { IfOk result (λ _. PlacesNested numbers.new.spans parent.span (places_of (map place_view places.new))) }
+    ensures places { IfOk result (λ _. numbers.new.places ≡ numbers.old.places + all_places (places_of (map place_view places.new))) }
+    ensures low { IfOk result (λ _. places_height (places_of (map place_view places.new)) ≤ depth) }
+    ensures len { numbers.new.len ≡ numbers.old.len }
 {
-    let mut places = places;
     let count = places.len();
-    waiting.take_places(&mut places)?;
-    let mut child = child;
+    waiting.take_places(places)?;
+    let mut child = first;
     for _turn in 0..count {
         let Some(place) = waiting.next_place() else {
-            return Ok((places, child));
+            return Ok(child);
         };
-        let name = PlaceName { node, child };
-        let place = number_place(given, numbered, waiting, depth, name, place)?;
+        let mut place = place;
+        number_place(given, numbers, waiting, depth, parent, child, &mut place)?;
         places.push(place)?;
-        child = child.saturating_add(1);
+        child = next_child(child)?;
     }
-    Ok((places, child))
+    Ok(child)
 }
 
-// The place under this name, with what stands there.
+// The place, which is this child of the parent, with what stands there.
 #[cycle(numbering)]
 fn number_place(
     given: &Given<'_>,
-    numbered: &mut Numbered,
+    numbers: &mut Numbering,
     waiting: &mut Waiting,
     depth: u32,
-    name: PlaceName,
-    place: Place,
-) -> Result<Place, AllocError>
-    ensures nodes { IfOk result (λ p. length numbered.new.spans ≡ length numbered.old.spans + places_nodes (places_of (place_view p ∷ []))) }
-    ensures places { IfOk result (λ p. numbered.new.places ≡ numbered.old.places + all_places (places_of (place_view p ∷ []))) }
-    ensures low { IfOk result (λ p. places_height (places_of (place_view p ∷ [])) ≤ depth) }
-    ensures len { numbered.new.len ≡ numbered.old.len }
+    parent: Parent,
+    child: u32,
+    place: &mut Place,
+) -> Result<(), AllocError>
+    requires outer { SpanFits numbers.old.len parent.span }
+    ensures numbers { IfOk result (λ _. places_of (place_view place.new ∷ []) ≡ numbered_places parent.number child (length numbers.old.spans) (places_of (place_view place.new ∷ []))) }
+    ensures nodes { IfOk result (λ _. length numbers.new.spans ≡ length numbers.old.spans + places_count (places_of (place_view place.new ∷ []))) }
+    ensures grows { IfOk result (λ _. Grows numbers.old.spans numbers.new.spans) }
+    ensures nested { IfOk result (λ _. PlacesNested numbers.new.spans parent.span (places_of (place_view place.new ∷ []))) }
+    ensures places { IfOk result (λ _. numbers.new.places ≡ numbers.old.places + all_places (places_of (place_view place.new ∷ []))) }
+    ensures low { IfOk result (λ _. places_height (places_of (place_view place.new ∷ [])) ≤ depth) }
+    ensures len { numbers.new.len ≡ numbers.old.len }
 {
-    numbered.count_place()?;
-    let name = Some(name);
-    match place.node {
-        None => Ok(Place { name, node: None }),
-        Some(tree) => {
-            let tree = number_node(given, numbered, waiting, depth, tree)?;
-            Ok(Place {
-                name,
-                node: Some(tree),
-            })
-        }
+    numbers.count_place()?;
+    place.name = Some(PlaceName {
+        node: parent.number,
+        child,
+    });
+    match &mut place.node {
+        None => Ok(()),
+        Some(tree) => number_node(given, numbers, waiting, depth, parent.span, tree),
     }
 }
 
 /// The tree with its nodes numbered, and their stretches by their new numbers.
 pub fn number(given: &Given<'_>, tree: Tree, levels: u32) -> Result<(Tree, Spans), AllocError>
     ensures fit { IfOk result (λ r. SpansFit (length given.now.laid.source.now) r.1) }
-    ensures nodes { IfOk result (λ r. length r.1 ≡ node_count (syntax r.0)) }
-    ensures few { IfOk result (λ r. node_count (syntax r.0) ≤ 4194304) }
+    ensures numbers { IfOk result (λ r. syntax r.0 ≡ numbered 0 (syntax r.0)) }
+    ensures nested { IfOk result (λ r. Nested r.1 (whole (length given.now.laid.source.now)) (syntax r.0)) }
+    ensures nodes { IfOk result (λ r. length r.1 ≡ count (syntax r.0)) }
+    ensures few { IfOk result (λ r. count (syntax r.0) ≤ 4194304) }
     ensures places { IfOk result (λ r. 1 + place_count (syntax r.0) ≤ 67108864) }
     ensures low { IfOk result (λ r. height (syntax r.0) ≤ levels) }
-    ensures first { IfOk result (λ r. r.0.from ≡ Some 0) }
 {
-    let mut numbered = Numbered {
-        len: given.laid.source.bytes().len() as u32,
+    let len = given.laid.source.bytes().len() as u32;
+    let mut numbers = Numbering {
+        len,
         spans: Items::new(given.alloc),
         places: 0,
     };
     let mut waiting = Waiting::new(given.alloc);
-    let tree = Boxed::new(given.alloc, tree)?;
-    let tree = number_node(given, &mut numbered, &mut waiting, levels, tree)?;
-    Ok((tree.into_inner(), numbered.spans))
+    let mut tree = tree;
+    let outer = Span { start: 0, end: len };
+    number_node(given, &mut numbers, &mut waiting, levels, outer, &mut tree)?;
+    Ok((tree, numbers.spans))
 }

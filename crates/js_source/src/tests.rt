@@ -92,7 +92,11 @@ fn notes(
         return Ok(None);
     };
     match at(&found.tree, &address) {
-        Some(node) => Ok(Some((node.lead.len(), node.trail.len(), node.inner.len()))),
+        Some(node) => Ok(Some((
+            node.notes.lead().len(),
+            node.notes.trail().len(),
+            node.notes.inner().len(),
+        ))),
         None => Ok(None),
     }
 }

@@ -1,11 +1,13 @@
 //! Whole sources.
 
-ghost use Rattle.std.specs.Prelude.{◌≡◌, ◌+◌, ◌≤◌, length, Some, IfErr, IfOk};
+ghost use Rattle.std.specs.Prelude.{◌≡◌, ◌+◌, ◌≤◌, length, IfErr, IfOk};
 ghost use Rattle.tree_core.specs.Height.{height};
+ghost use Rattle.tree_core.specs.Numbers.{count, numbered};
 ghost use Rattle.tree_core.specs.View.{syntax};
 ghost use Rattle.js_lexer.specs.Cursors.{SpansFit};
 ghost use Rattle.js_parser.specs.Refusals.{RefusedWithin};
-ghost use Rattle.js_source.specs.Sizes.{node_count, place_count};
+ghost use Rattle.js_source.specs.Nested.{Nested, whole};
+ghost use Rattle.js_source.specs.Sizes.{place_count};
 
 use crate::attached::Attached;
 use crate::front::front_of;
@@ -29,13 +31,14 @@ fn attached(alloc: Global, laid: Laid<'_>, tree: &Tree) -> Result<Attached, Allo
 }
 
 // The tree with its numbers, place names and comments, and the stretches of its nodes by number.
-fn numbered(alloc: Global, laid: Laid<'_>, tree: Tree) -> Result<(Tree, Spans), AllocError>
+fn numbered_tree(alloc: Global, laid: Laid<'_>, tree: Tree) -> Result<(Tree, Spans), AllocError>
     ensures fit { IfOk result (λ r. SpansFit (length laid.entry.source.now) r.1) }
-    ensures nodes { IfOk result (λ r. length r.1 ≡ node_count (syntax r.0)) }
-    ensures few { IfOk result (λ r. node_count (syntax r.0) ≤ 4194304) }
+    ensures nodes { IfOk result (λ r. length r.1 ≡ count (syntax r.0)) }
+    ensures few { IfOk result (λ r. count (syntax r.0) ≤ 4194304) }
     ensures places { IfOk result (λ r. 1 + place_count (syntax r.0) ≤ 67108864) }
     ensures low { IfOk result (λ r. height (syntax r.0) ≤ 1000) }
-    ensures first { IfOk result (λ r. r.0.from ≡ Some 0) }
+    ensures numbers { IfOk result (λ r. syntax r.0 ≡ numbered 0 (syntax r.0)) }
+    ensures nested { IfOk result (λ r. Nested r.1 (whole (length laid.entry.source.now)) (syntax r.0)) }
 {
     let attached = attached(alloc, laid, &tree)?;
     let given = Given {
@@ -54,11 +57,12 @@ fn numbered(alloc: Global, laid: Laid<'_>, tree: Tree) -> Result<(Tree, Spans), 
 /// 14th edition, clause 12.5). A refusal names the byte offset of a token, or is for want of memory.
 pub fn parse(alloc: Global, source: &Source) -> Result<Parsed, Refusal>
     ensures refused { IfErr result (RefusedWithin (length source.now)) }
-    ensures spans { IfOk result (λ parsed. length parsed.spans ≡ node_count (syntax parsed.tree)) }
+    ensures spans { IfOk result (λ parsed. length parsed.spans ≡ count (syntax parsed.tree)) }
     ensures within { IfOk result (λ parsed. SpansFit (length source.now) parsed.spans) }
     ensures comments { IfOk result (λ parsed. SpansFit (length source.now) parsed.comments) }
-    ensures first { IfOk result (λ parsed. parsed.tree.from ≡ Some 0) }
-    ensures nodes { IfOk result (λ parsed. node_count (syntax parsed.tree) ≤ 4194304) }
+    ensures numbers { IfOk result (λ parsed. syntax parsed.tree ≡ numbered 0 (syntax parsed.tree)) }
+    ensures nested { IfOk result (λ parsed. Nested parsed.spans (whole (length source.now)) (syntax parsed.tree)) }
+    ensures nodes { IfOk result (λ parsed. count (syntax parsed.tree) ≤ 4194304) }
     ensures places { IfOk result (λ parsed. 1 + place_count (syntax parsed.tree) ≤ 67108864) }
     ensures low { IfOk result (λ parsed. height (syntax parsed.tree) ≤ 1000) }
 {
@@ -82,7 +86,7 @@ pub fn parse(alloc: Global, source: &Source) -> Result<Parsed, Refusal>
         spans: spans.as_slice(),
         comments: comments.as_slice(),
     };
-    let (tree, spans) = numbered(alloc, laid, tree)?;
+    let (tree, spans) = numbered_tree(alloc, laid, tree)?;
     Ok(Parsed {
         tree,
         spans,

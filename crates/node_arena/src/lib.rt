@@ -20,7 +20,6 @@ mod steps;
 mod tests;
 
 pub use arena::{Arena, MOST_NODES, MOST_PLACES};
-pub use cloning::{copy_comments, copy_scalar};
 pub use copies::Copies;
 pub use ids::{NodeId, PlaceId};
 pub use preorder::Size;

@@ -5,12 +5,12 @@ ghost use Rattle.tree_core.specs.declared.scalars.Scalar.TheVariants.{Null};
 ghost use Rattle.node_arena.specs.Rows.{edit};
 ghost use Rattle.node_arena.specs.Payload.{HasPayloadRoom, said_of, start_said, with_node, with_copy, with_place, first_in, scalar_number, lead_in, trail_in, inner_in, from_in, name_in, commented, coming_from};
 
-use crate::cloning::{copy_comments, copy_scalars};
+use crate::cloning::copy_scalars;
 use crate::links::keep;
 use sqlite_items::Items;
 use std::alloc::{AllocError, Global};
 use std::marker::Model;
-use tree_core::{Comments, PlaceName, Scalar};
+use tree_core::{Comments, PlaceName, Scalar, copy_comments};
 
 /// What a node says: where its scalars begin, its comments, and the number of the source's node
 /// that it comes from.
@@ -150,9 +150,9 @@ impl Payload {
         let facts = &self.facts[node as usize];
         let first = facts.first_scalar as usize;
         let from = facts.from;
-        let lead = copy_comments(self.alloc, &facts.lead)?;
-        let trail = copy_comments(self.alloc, &facts.trail)?;
-        let inner = copy_comments(self.alloc, &facts.inner)?;
+        let lead = copy_comments(self.alloc, facts.lead.as_slice())?;
+        let trail = copy_comments(self.alloc, facts.trail.as_slice())?;
+        let inner = copy_comments(self.alloc, facts.inner.as_slice())?;
         let mut copied = copy_scalars(self.alloc, &self.scalars[first..first + scalars])?;
         let first_scalar = self.scalars.len() as u32;
         self.scalars.append(&mut copied)?;

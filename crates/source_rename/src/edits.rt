@@ -93,7 +93,7 @@ fn add_place(
 {
     match &place.node {
         None => Ok(()),
-        Some(node) => add_tree(found, search, node.get(), seat),
+        Some(node) => add_tree(found, search, node, seat),
     }
 }
 

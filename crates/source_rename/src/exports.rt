@@ -97,7 +97,7 @@ fn add_open_end(
     let Some(node) = &item.node else {
         return Ok(());
     };
-    match open_end(search, node.get()) {
+    match open_end(search, node) {
         Some(open) => Ok(found.push(open)?),
         None => Ok(()),
     }

@@ -80,7 +80,7 @@ fn bad_in_place(
 {
     match &place.node {
         None => Ok(None),
-        Some(node) => match bad_method(alloc, names, node.get())? {
+        Some(node) => match bad_method(alloc, names, node)? {
             None => Ok(None),
             Some(mut steps) => {
                 steps.insert(0, number)?;
@@ -170,7 +170,7 @@ fn holds_named(name: &[u8], slot: &Slot) -> bool
 {
     match slot {
         Slot::Single(place) => match &place.node {
-            Some(node) => is_named(node.get(), name),
+            Some(node) => is_named(node, name),
             None => false,
         },
         Slot::List(_) => false,

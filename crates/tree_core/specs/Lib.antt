@@ -4,5 +4,6 @@ pub mod Height
 pub mod Held
 pub mod Noted
 pub mod Notes
+pub mod Numbers
 pub mod Syntax
 pub mod View

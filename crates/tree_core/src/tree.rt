@@ -87,4 +87,11 @@ impl Tree {
             from: None,
         }
     }
+
+    /// The node in a box.
+    pub fn boxed(self, alloc: Global) -> Result<Box<Tree>, AllocError>
+        ensures { IfOk result (λ b. b.value ≡ self) }
+    {
+        Ok(Box::new(alloc, self)?)
+    }
 }
