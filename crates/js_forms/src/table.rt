@@ -331,7 +331,6 @@ fn operation_parts(form: Form) -> &'static [Part]
             Part::Word(Word::Yield),
             Part::SameLine,
             Part::Mark(Punctuator::Star),
-            Part::SameLine,
             child!(Category::Expression, 1, Scope::Same),
         ],
         Form::Binary(_) | Form::Logical(_) => &[Part::Operator, Part::Right],
