@@ -1,9 +1,11 @@
 -- Stretches that nest go on to nest when more of them come behind.
-use Rattle.std.proofs.Common.{◌≡◌, ◌≤◌, ◌<◌, ◌+◌, ℕ, zero, suc, List, [], ◌∷◌, ◌++◌, Option, Some, None, length, drop, slice_get, refl, sym, ◌∙◌, ap, subst, arith}
-use Rattle.std.proofs.lemmas.List.{append_assoc, drop_all}
+use Rattle.std.proofs.Common.{◌≡◌, ◌≤◌, ◌<◌, ◌+◌, ℕ, zero, suc, List, [], ◌∷◌, ◌++◌, Some, length, length-append, append-nil, drop, slice_get, refl, sym, ◌∙◌, ap, subst, arith}
+use Rattle.std.proofs.lemmas.List.{append_assoc}
 use Rattle.std.proofs.Math.Seq.{drop-append_seam}
-use Rattle.std.specs.Prelude.{append-nil, unwrap_or}
+use Rattle.std.specs.Prelude.{unwrap_or}
+use Rattle.tree_core.specs.declared.scalars.Scalar.{Scalar}
 use Rattle.tree_core.specs.declared.span.Span.{Span}
+use Rattle.tree_core.specs.Notes.{Notes}
 use Rattle.tree_core.specs.Numbers.{count, slots_count, places_count, places_length, numbered, numbered_slots, numbered_places, nowhere, span_of}
 use Rattle.tree_core.specs.Syntax.{Syntax, node, Slots, no_slots, slot, Places, no_places, hole, place}
 use Rattle.js_source.specs.Nested.{Grows, Lies, Nested, SlotsNested, PlacesNested}
@@ -60,3 +62,10 @@ mutual
       let et : t ≡ numbered n t = cc in
       let em : more ≡ numbered_places parent (child + 1) (n + count t) more = cc in
       (nested_kept a b g outer n t et (omega arith) h.0, places_kept a b g outer parent (child + 1) (n + count t) more em (omega arith) h.1)
+
+-- a node that was given the next number, and its slots
+pub node_nested : (t : Syntax) (kind : ℕ) (scalars : List Scalar) (slots : Slots) (notes : Notes) (a b : List Span) (outer x : Span) (n : ℕ) → t ≡ node kind scalars slots notes (Some n)
+    → n ≡ length a → Grows (a ++ x ∷ []) b → Lies outer x → SlotsNested b x slots → Nested b outer t
+node_nested t kind scalars slots notes a b outer x n is e g l s =
+    let w : span_of b (Some n) ≡ x = ap (λ z. span_of b (Some z)) e ∙ last_kept a b x g in
+    subst (Nested b outer) (sym is) (subst (λ z. Lies outer z × SlotsNested b z slots) (sym w) (l, s))

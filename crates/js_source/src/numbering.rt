@@ -132,7 +132,8 @@ fn number_node(
     let parent = numbers.give(given.laid.span_of(from), outer)?;
     tree.notes = notes_of(given.alloc, given.laid, given.attached, from)?;
     tree.from = Some(parent.number);
-    number_slots(given, numbers, waiting, depth - 1, parent, &mut tree.slots)
+    number_slots(given, numbers, waiting, depth - 1, parent, &mut tree.slots)?;
+    Ok(())
 }
 
 // The slots of the parent.

@@ -1,7 +1,10 @@
 use Rattle.std.proofs.Common.{◌≡◌, ◌≤◌, ◌+◌, ◌*◌, length, map}
 use Rattle.tree_core.specs.Height.{slots_height, places_height}
+use Rattle.tree_core.specs.Numbers.{slots_count, places_count, places_length, numbered_slots, numbered_places}
 use Rattle.tree_core.specs.View.{slot_view, place_view, slots_of, places_of}
-use Rattle.js_source.specs.Sizes.{slots_nodes, places_nodes, slots_places, all_places}
+use Rattle.js_source.specs.Nested.{Grows, SlotsNested, PlacesNested}
+use Rattle.js_source.specs.Sizes.{slots_places, all_places}
+use Rattle.js_source.proofs.Numberings.{slots_length}
 use Rattle.js_source.proofs.numbering.+numbering.Given as goal
 
 abbrev pub decreases-number_node : goal.decreases-number_node
@@ -21,16 +24,24 @@ decreases-number_place l = 5 * l.depth + 1
 
 abbrev pub invariant-number_slots-loop-turn : goal.invariant-number_slots-loop-turn
 invariant-number_slots-loop-turn l = record {
-  nodes : length l.numbered.spans ≡ length l.fn.numbered.spans + slots_nodes (slots_of (map slot_view l.slots));
-  places : l.numbered.places ≡ l.fn.numbered.places + slots_places (slots_of (map slot_view l.slots));
+  child : l.child ≡ slots_length (slots_of (map slot_view l.slots));
+  numbers : slots_of (map slot_view l.slots) ≡ numbered_slots l.parent.number 0 (length l.fn.numbers.spans) (slots_of (map slot_view l.slots));
+  nodes : length l.numbers.spans ≡ length l.fn.numbers.spans + slots_count (slots_of (map slot_view l.slots));
+  grows : Grows l.fn.numbers.spans l.numbers.spans;
+  nested : SlotsNested l.numbers.spans l.parent.span (slots_of (map slot_view l.slots));
+  places : l.numbers.places ≡ l.fn.numbers.places + slots_places (slots_of (map slot_view l.slots));
   low : slots_height (slots_of (map slot_view l.slots)) ≤ l.depth;
-  len : l.numbered.len ≡ l.fn.numbered.len;
+  len : l.numbers.len ≡ l.fn.numbers.len;
 }
 
 abbrev pub invariant-number_places-loop-turn : goal.invariant-number_places-loop-turn
 invariant-number_places-loop-turn l = record {
-  nodes : length l.numbered.spans ≡ length l.fn.numbered.spans + places_nodes (places_of (map place_view l.places));
-  places : l.numbered.places ≡ l.fn.numbered.places + all_places (places_of (map place_view l.places));
+  child : l.child ≡ l.first + places_length (places_of (map place_view l.places));
+  numbers : places_of (map place_view l.places) ≡ numbered_places l.parent.number l.first (length l.fn.numbers.spans) (places_of (map place_view l.places));
+  nodes : length l.numbers.spans ≡ length l.fn.numbers.spans + places_count (places_of (map place_view l.places));
+  grows : Grows l.fn.numbers.spans l.numbers.spans;
+  nested : PlacesNested l.numbers.spans l.parent.span (places_of (map place_view l.places));
+  places : l.numbers.places ≡ l.fn.numbers.places + all_places (places_of (map place_view l.places));
   low : places_height (places_of (map place_view l.places)) ≤ l.depth;
-  len : l.numbered.len ≡ l.fn.numbered.len;
+  len : l.numbers.len ≡ l.fn.numbers.len;
 }
