@@ -89,3 +89,10 @@ has_line_end-next text at inside none =
     let cut = drop-byte text at inside in
     let here = rw cut at none in
     rw (cut, here) refl
+
+pub has_line_end-here : (text : List ℕ) (at : ℕ) → at < length text → breaks_line (drop at text) ≡ true → has_line_end (drop at text) ≡ true
+unfolding has_line_end
+has_line_end-here text at inside breaks =
+    let cut = drop-byte text at inside in
+    let here = rw cut at breaks in
+    rw (cut, here) refl

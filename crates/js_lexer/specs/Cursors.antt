@@ -16,7 +16,7 @@ use Rattle.js_lexer.specs.declared.fault.Refusal.{Refusal}
 use Rattle.js_lexer.specs.declared.fault.Refusal.TheVariants as r
 use Rattle.js_lexer.specs.declared.fault.SyntaxFault.{SyntaxFault}
 use Rattle.js_lexer.specs.declared.fault.SyntaxKind.TheVariants.{Lex, Unexpected, Nesting}
-use Rattle.js_lexer.specs.declared.scan.Gap.{Gap}
+use Rattle.js_lexer.specs.declared.scanning.Gap.{Gap}
 use Rattle.js_lexer.specs.Blanks.{blank_len, comment_len}
 use Rattle.js_lexer.specs.Scan.{gap_at, scan, token_at}
 

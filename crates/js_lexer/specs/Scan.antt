@@ -5,7 +5,7 @@ use Rattle.js_tokens.specs.declared.token.Token.{Token}
 use Rattle.js_lexer.specs.declared.element.Element.{Element}
 use Rattle.js_lexer.specs.declared.fault.LexFault.{LexFault}
 use Rattle.js_lexer.specs.declared.fault.LexFaultKind.{LexFaultKind}
-use Rattle.js_lexer.specs.declared.scan.Gap.{Gap}
+use Rattle.js_lexer.specs.declared.scanning.Gap.{Gap}
 use Rattle.js_lexer.specs.Blanks.{gap_len, has_line_end}
 use Rattle.js_lexer.specs.Elements.{longest}
 

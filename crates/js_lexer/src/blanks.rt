@@ -5,7 +5,7 @@ ghost use Rattle.std.specs.Prelude.{◌≡◌, ◌<◌, ◌≤◌, length};
 ghost use Rattle.js_lexer.specs.Blanks as spec;
 
 use crate::parts::{Part, breaks_line, has_byte, run};
-use js_tokens::{byte_at, char_len, first_char};
+use js_tokens::{Text, char_len, first_char};
 
 fn is_white_space(code: u32) -> bool
     ensures { result ≡ spec.is_white_space code }
@@ -37,9 +37,9 @@ fn is_line_end(code: u32) -> bool
 
 /// The length of the comment with which the bytes begin, 0 where none does. An open comment is none.
 #[tactic(auto, unfolding(crate::specs::Blanks::comment_len))]
-pub fn comment_len(rest: &[u8]) -> usize
-    ensures value { result ≡ spec.comment_len rest.now }
-    ensures within { result ≤ length rest.now }
+pub fn comment_len<T: Text>(rest: T) -> usize
+    ensures value { result ≡ spec.comment_len (T.bytes rest) }
+    ensures within { result ≤ length (T.bytes rest) }
 {
     if !has_byte(rest, 0, b'/') {
         return 0;
@@ -61,21 +61,21 @@ pub fn comment_len(rest: &[u8]) -> usize
 /// none does.
 #[tactic(auto, unfolding(crate::specs::Blanks::blank_len))]
 #[inline(always)]
-pub fn blank_len(rest: &[u8]) -> usize
-    ensures { result ≡ spec.blank_len rest.now }
+pub fn blank_len<T: Text>(rest: T) -> usize
+    ensures { result ≡ spec.blank_len (T.bytes rest) }
 {
     let code = first_char(rest);
     if is_white_space(code) || is_line_end(code) {
-        return char_len(byte_at(rest, 0));
+        return char_len(rest.byte(0));
     }
     comment_len(rest)
 }
 
 /// The length of all blanks and comments with which the bytes begin.
 #[tactic(auto, using(crate::proofs::Rows::walking_rows))]
-pub fn gap_len(rest: &[u8]) -> usize
-    ensures value { result ≡ spec.gap_len rest.now }
-    ensures within { result ≤ length rest.now }
+pub fn gap_len<T: Text>(rest: T) -> usize
+    ensures value { result ≡ spec.gap_len (T.bytes rest) }
+    ensures within { result ≤ length (T.bytes rest) }
 {
     let mut skip = 0;
     for at in 0..rest.len() {
@@ -83,7 +83,7 @@ pub fn gap_len(rest: &[u8]) -> usize
             skip -= 1;
             continue;
         }
-        let len = blank_len(&rest[at..]);
+        let len = blank_len(rest.after(at));
         if len == 0 {
             return at;
         }
@@ -94,11 +94,11 @@ pub fn gap_len(rest: &[u8]) -> usize
 
 /// Whether a line end stands in the bytes.
 #[tactic(auto, unfolding(crate::specs::Blanks::has_line_end))]
-pub fn has_line_end(bytes: &[u8]) -> bool
-    ensures { result ≡ spec.has_line_end bytes.now }
+pub fn has_line_end<T: Text>(blanks: T) -> bool
+    ensures { result ≡ spec.has_line_end (T.bytes blanks) }
 {
-    for at in 0..bytes.len() {
-        if breaks_line(&bytes[at..]) {
+    for at in 0..blanks.len() {
+        if breaks_line(blanks.after(at)) {
             return true;
         }
     }

@@ -13,7 +13,7 @@ ghost use Rattle.js_lexer.specs.Scan.{gap_at};
 use crate::blanks::{blank_len, comment_len};
 use crate::fault::{LexFault, Refusal, SyntaxFault, SyntaxKind};
 use crate::parts::has_byte;
-use crate::scan::{Gap, gap_to, next, token_at};
+use crate::scanning::{Gap, gap_to, next, token_at};
 use cm_text::Source;
 use js_tokens::{Goal, Punctuator, Token, TokenKind, Word};
 use sqlite_items::Items;

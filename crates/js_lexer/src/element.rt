@@ -1,7 +1,7 @@
 //! The longest lexical element (ECMA-262, clause 12), once blanks and comments are passed. Each
 //! function is given the bytes from the element's start to the end of the text.
 
-ghost use Rattle.std.specs.Prelude.{◌≡◌, ◌<◌, ◌≤◌, length, IfOk};
+ghost use Rattle.std.specs.Prelude.{◌≡◌, ◌+◌, ◌^◌, ◌<◌, ◌≤◌, length, IfOk};
 ghost use Rattle.js_lexer.specs.Elements as spec;
 
 use crate::fault::LexFaultKind;
@@ -9,7 +9,7 @@ use crate::marks::{mark, punctuator, with_equal};
 use crate::numbers::number;
 use crate::parts::{Part, has_byte, is_digit, name_start_len, run};
 use crate::quoted::{regex, string, template};
-use js_tokens::{Goal, Punctuator, TokenKind, Word, byte_at};
+use js_tokens::{Goal, Punctuator, Text, TokenKind, Word};
 
 /// A lexical element of so many bytes.
 #[derive(Clone, Copy, Debug, PartialEq, Eq)]
@@ -38,9 +38,10 @@ fn begins_regex(goal: Goal) -> bool
 
 // The length of the name with which the bytes begin, 0 where none does.
 #[tactic(auto, unfolding(crate::specs::Elements::name_len))]
-fn name_len(rest: &[u8]) -> usize
-    ensures value { result ≡ spec.name_len rest.now }
-    ensures within { result ≤ length rest.now }
+fn name_len<T: Text>(rest: T) -> usize
+    ensures value { result ≡ spec.name_len (T.bytes rest) }
+    ensures within { result ≤ length (T.bytes rest) }
+    ensures short { result + 1 < 2 ^ 64 }
 {
     let first = name_start_len(rest);
     if first == 0 {
@@ -49,22 +50,22 @@ fn name_len(rest: &[u8]) -> usize
     run(Part::OfName, rest, first)
 }
 
-fn name(rest: &[u8], len: usize) -> Element
-    requires { len ≤ length rest.now }
-    ensures { result ≡ spec.name rest.now len }
+fn name<T: Text>(rest: T, len: usize) -> Element
+    requires { len ≤ length (T.bytes rest) }
+    ensures { result ≡ spec.name (T.bytes rest) len }
 {
     Element {
-        kind: TokenKind::Name(Word::of(&rest[..len])),
+        kind: TokenKind::Name(Word::of(rest.before(len))),
         len,
     }
 }
 
 // What begins with `}`.
 #[tactic(auto, unfolding(crate::specs::Elements::brace))]
-fn brace(rest: &[u8], goal: Goal) -> Result<Element, LexFaultKind>
-    requires { 0 < length rest.now }
-    ensures value { result ≡ spec.brace rest.now goal }
-    ensures within { IfOk result (λ element. element.len ≤ length rest.now) }
+fn brace<T: Text>(rest: T, goal: Goal) -> Result<Element, LexFaultKind>
+    requires { 0 < length (T.bytes rest) }
+    ensures value { result ≡ spec.brace (T.bytes rest) goal }
+    ensures within { IfOk result (λ element. element.len ≤ length (T.bytes rest)) }
 {
     if continues_template(goal) {
         return template(rest);
@@ -74,10 +75,10 @@ fn brace(rest: &[u8], goal: Goal) -> Result<Element, LexFaultKind>
 
 // What begins with `/`. A comment that is closed is passed already.
 #[tactic(auto, unfolding(crate::specs::Elements::slash))]
-fn slash(rest: &[u8], goal: Goal) -> Result<Element, LexFaultKind>
-    requires { 0 < length rest.now }
-    ensures value { result ≡ spec.slash rest.now goal }
-    ensures within { IfOk result (λ element. element.len ≤ length rest.now) }
+fn slash<T: Text>(rest: T, goal: Goal) -> Result<Element, LexFaultKind>
+    requires { 0 < length (T.bytes rest) }
+    ensures value { result ≡ spec.slash (T.bytes rest) goal }
+    ensures within { IfOk result (λ element. element.len ≤ length (T.bytes rest)) }
 {
     if has_byte(rest, 1, b'*') {
         return Err(LexFaultKind::OpenComment);
@@ -90,12 +91,12 @@ fn slash(rest: &[u8], goal: Goal) -> Result<Element, LexFaultKind>
 
 // What begins with `#`.
 #[tactic(auto, unfolding(crate::specs::Elements::private_name))]
-fn private_name(rest: &[u8]) -> Result<Element, LexFaultKind>
-    requires { 0 < length rest.now }
-    ensures value { result ≡ spec.private_name rest.now }
-    ensures within { IfOk result (λ element. element.len ≤ length rest.now) }
+fn private_name<T: Text>(rest: T) -> Result<Element, LexFaultKind>
+    requires { 0 < length (T.bytes rest) }
+    ensures value { result ≡ spec.private_name (T.bytes rest) }
+    ensures within { IfOk result (λ element. element.len ≤ length (T.bytes rest)) }
 {
-    let len = name_len(&rest[1..]);
+    let len = name_len(rest.after(1));
     if len > 0 {
         return Ok(Element {
             kind: TokenKind::Private,
@@ -110,21 +111,21 @@ fn private_name(rest: &[u8]) -> Result<Element, LexFaultKind>
 
 // A digit, or a dot and a digit.
 #[tactic(auto, unfolding(crate::specs::Elements::begins_number))]
-fn begins_number(rest: &[u8]) -> bool
-    ensures { result ≡ spec.begins_number rest.now }
+fn begins_number<T: Text>(rest: T) -> bool
+    ensures { result ≡ spec.begins_number (T.bytes rest) }
 {
-    if byte_at(rest, 0) == b'.' {
-        return is_digit(10, byte_at(rest, 1));
+    if rest.byte(0) == b'.' {
+        return is_digit(10, rest.byte(1));
     }
-    is_digit(10, byte_at(rest, 0))
+    is_digit(10, rest.byte(0))
 }
 
 // What begins with none of these.
 #[tactic(auto, unfolding(crate::specs::Elements::other))]
-fn other(rest: &[u8]) -> Result<Element, LexFaultKind>
-    requires { 0 < length rest.now }
-    ensures value { result ≡ spec.other rest.now }
-    ensures within { IfOk result (λ element. element.len ≤ length rest.now) }
+fn other<T: Text>(rest: T) -> Result<Element, LexFaultKind>
+    requires { 0 < length (T.bytes rest) }
+    ensures value { result ≡ spec.other (T.bytes rest) }
+    ensures within { IfOk result (λ element. element.len ≤ length (T.bytes rest)) }
 {
     if begins_number(rest) {
         return number(rest);
@@ -137,12 +138,12 @@ fn other(rest: &[u8]) -> Result<Element, LexFaultKind>
 
 // What is no name.
 #[tactic(auto, unfolding(crate::specs::Elements::symbol))]
-fn symbol(rest: &[u8], goal: Goal) -> Result<Element, LexFaultKind>
-    requires { 0 < length rest.now }
-    ensures value { result ≡ spec.symbol rest.now goal }
-    ensures within { IfOk result (λ element. element.len ≤ length rest.now) }
+fn symbol<T: Text>(rest: T, goal: Goal) -> Result<Element, LexFaultKind>
+    requires { 0 < length (T.bytes rest) }
+    ensures value { result ≡ spec.symbol (T.bytes rest) goal }
+    ensures within { IfOk result (λ element. element.len ≤ length (T.bytes rest)) }
 {
-    match rest[0] {
+    match rest.byte(0) {
         b'"' | b'\'' => string(rest),
         b'`' => template(rest),
         b'}' => brace(rest, goal),
@@ -156,11 +157,11 @@ fn symbol(rest: &[u8], goal: Goal) -> Result<Element, LexFaultKind>
 /// The longest element with which the bytes begin in the goal: at their end the element `End`, or
 /// what is wrong with it.
 #[tactic(auto, unfolding(crate::specs::Elements::longest))]
-pub fn longest(rest: &[u8], goal: Goal) -> Result<Element, LexFaultKind>
-    ensures value { result ≡ spec.longest rest.now goal }
-    ensures within { IfOk result (λ element. element.len ≤ length rest.now) }
+pub fn longest<T: Text>(rest: T, goal: Goal) -> Result<Element, LexFaultKind>
+    ensures value { result ≡ spec.longest (T.bytes rest) goal }
+    ensures within { IfOk result (λ element. element.len ≤ length (T.bytes rest)) }
 {
-    if rest.is_empty() {
+    if rest.len() == 0 {
         return Ok(Element {
             kind: TokenKind::End,
             len: 0,

@@ -13,10 +13,10 @@ mod marks;
 mod numbers;
 mod parts;
 mod quoted;
-mod scan;
+mod scanning;
 #[cfg(test)]
 mod tests;
 
 pub use cursor::Cursor;
 pub use fault::{LexFault, LexFaultKind, Refusal, SyntaxFault, SyntaxKind};
-pub use scan::{next, rescan};
+pub use scanning::{next, rescan, scan};

@@ -6,7 +6,7 @@ ghost use Rattle.js_lexer.specs.Marks as spec;
 
 use crate::element::Element;
 use crate::parts::{has_byte, is_digit};
-use js_tokens::{Punctuator, TokenKind, byte_at};
+use js_tokens::{Punctuator, Text, TokenKind};
 
 /// The punctuator, of so many bytes.
 pub fn mark(punctuator: Punctuator, len: usize) -> Element
@@ -19,10 +19,10 @@ pub fn mark(punctuator: Punctuator, len: usize) -> Element
 }
 
 /// A character that stands alone, or before `=`.
-pub fn with_equal(rest: &[u8], alone: Punctuator, equal: Punctuator) -> Element
-    requires { 0 < length rest.now }
-    ensures value { result ≡ spec.with_equal rest.now alone equal }
-    ensures within { result.len ≤ length rest.now }
+pub fn with_equal<T: Text>(rest: T, alone: Punctuator, equal: Punctuator) -> Element
+    requires { 0 < length (T.bytes rest) }
+    ensures value { result ≡ spec.with_equal (T.bytes rest) alone equal }
+    ensures within { result.len ≤ length (T.bytes rest) }
 {
     if has_byte(rest, 1, b'=') {
         return mark(equal, 2);
@@ -31,13 +31,13 @@ pub fn with_equal(rest: &[u8], alone: Punctuator, equal: Punctuator) -> Element
 }
 
 // A character that stands twice, twice before `=`, or else once as `once` says.
-fn doubled(rest: &[u8], once: Element, twice: Punctuator, twice_equal: Punctuator) -> Element
-    requires some { 0 < length rest.now }
-    requires once_within { once.len ≤ length rest.now }
-    ensures value { result ≡ spec.doubled rest.now once twice twice_equal }
-    ensures within { result.len ≤ length rest.now }
+fn doubled<T: Text>(rest: T, once: Element, twice: Punctuator, twice_equal: Punctuator) -> Element
+    requires some { 0 < length (T.bytes rest) }
+    requires once_within { once.len ≤ length (T.bytes rest) }
+    ensures value { result ≡ spec.doubled (T.bytes rest) once twice twice_equal }
+    ensures within { result.len ≤ length (T.bytes rest) }
 {
-    if !has_byte(rest, 1, byte_at(rest, 0)) {
+    if !has_byte(rest, 1, rest.byte(0)) {
         return once;
     }
     if has_byte(rest, 2, b'=') {
@@ -47,22 +47,22 @@ fn doubled(rest: &[u8], once: Element, twice: Punctuator, twice_equal: Punctuato
 }
 
 // `+`, `++` or `+=`, and so for `-`.
-fn stepping(rest: &[u8], alone: Punctuator, equal: Punctuator, twice: Punctuator) -> Element
-    requires { 0 < length rest.now }
-    ensures value { result ≡ spec.stepping rest.now alone equal twice }
-    ensures within { result.len ≤ length rest.now }
+fn stepping<T: Text>(rest: T, alone: Punctuator, equal: Punctuator, twice: Punctuator) -> Element
+    requires { 0 < length (T.bytes rest) }
+    ensures value { result ≡ spec.stepping (T.bytes rest) alone equal twice }
+    ensures within { result.len ≤ length (T.bytes rest) }
 {
-    if has_byte(rest, 1, byte_at(rest, 0)) {
+    if has_byte(rest, 1, rest.byte(0)) {
         return mark(twice, 2);
     }
     with_equal(rest, alone, equal)
 }
 
 #[tactic(auto, unfolding(crate::specs::Marks::dots))]
-fn dots(rest: &[u8]) -> Element
-    requires { 0 < length rest.now }
-    ensures value { result ≡ spec.dots rest.now }
-    ensures within { result.len ≤ length rest.now }
+fn dots<T: Text>(rest: T) -> Element
+    requires { 0 < length (T.bytes rest) }
+    ensures value { result ≡ spec.dots (T.bytes rest) }
+    ensures within { result.len ≤ length (T.bytes rest) }
 {
     if has_byte(rest, 1, b'.') && has_byte(rest, 2, b'.') {
         return mark(Punctuator::Ellipsis, 3);
@@ -71,10 +71,10 @@ fn dots(rest: &[u8]) -> Element
 }
 
 #[tactic(auto, unfolding(crate::specs::Marks::greater))]
-fn greater(rest: &[u8]) -> Element
-    requires { 0 < length rest.now }
-    ensures value { result ≡ spec.greater rest.now }
-    ensures within { result.len ≤ length rest.now }
+fn greater<T: Text>(rest: T) -> Element
+    requires { 0 < length (T.bytes rest) }
+    ensures value { result ≡ spec.greater (T.bytes rest) }
+    ensures within { result.len ≤ length (T.bytes rest) }
 {
     if has_byte(rest, 1, b'>') && has_byte(rest, 2, b'>') {
         if has_byte(rest, 3, b'=') {
@@ -92,10 +92,10 @@ fn greater(rest: &[u8]) -> Element
 }
 
 #[tactic(auto, unfolding(crate::specs::Marks::equals))]
-fn equals(rest: &[u8]) -> Element
-    requires { 0 < length rest.now }
-    ensures value { result ≡ spec.equals rest.now }
-    ensures within { result.len ≤ length rest.now }
+fn equals<T: Text>(rest: T) -> Element
+    requires { 0 < length (T.bytes rest) }
+    ensures value { result ≡ spec.equals (T.bytes rest) }
+    ensures within { result.len ≤ length (T.bytes rest) }
 {
     if has_byte(rest, 1, b'>') {
         return mark(Punctuator::Arrow, 2);
@@ -105,10 +105,10 @@ fn equals(rest: &[u8]) -> Element
 }
 
 #[tactic(auto, unfolding(crate::specs::Marks::bang))]
-fn bang(rest: &[u8]) -> Element
-    requires { 0 < length rest.now }
-    ensures value { result ≡ spec.bang rest.now }
-    ensures within { result.len ≤ length rest.now }
+fn bang<T: Text>(rest: T) -> Element
+    requires { 0 < length (T.bytes rest) }
+    ensures value { result ≡ spec.bang (T.bytes rest) }
+    ensures within { result.len ≤ length (T.bytes rest) }
 {
     if has_byte(rest, 1, b'=') && has_byte(rest, 2, b'=') {
         return mark(Punctuator::StrictNotEqual, 3);
@@ -118,12 +118,12 @@ fn bang(rest: &[u8]) -> Element
 
 // `?.` is none before a digit, as in `a?.5:b`.
 #[tactic(auto, unfolding(crate::specs::Marks::question))]
-fn question(rest: &[u8]) -> Element
-    requires { 0 < length rest.now }
-    ensures value { result ≡ spec.question rest.now }
-    ensures within { result.len ≤ length rest.now }
+fn question<T: Text>(rest: T) -> Element
+    requires { 0 < length (T.bytes rest) }
+    ensures value { result ≡ spec.question (T.bytes rest) }
+    ensures within { result.len ≤ length (T.bytes rest) }
 {
-    if has_byte(rest, 1, b'.') && !is_digit(10, byte_at(rest, 2)) {
+    if has_byte(rest, 1, b'.') && !is_digit(10, rest.byte(2)) {
         return mark(Punctuator::OptionalDot, 2);
     }
     let once = mark(Punctuator::Question, 1);
@@ -151,12 +151,12 @@ fn lone(byte: u8) -> Option<Punctuator>
 
 // The operators that may stand twice, and twice before `=`.
 #[tactic(auto, unfolding(crate::specs::Marks::doubling))]
-fn doubling(rest: &[u8]) -> Option<Element>
-    requires { 0 < length rest.now }
-    ensures value { result ≡ spec.doubling rest.now }
-    ensures within { IfSome result (λ element. element.len ≤ length rest.now) }
+fn doubling<T: Text>(rest: T) -> Option<Element>
+    requires { 0 < length (T.bytes rest) }
+    ensures value { result ≡ spec.doubling (T.bytes rest) }
+    ensures within { IfSome result (λ element. element.len ≤ length (T.bytes rest)) }
 {
-    match byte_at(rest, 0) {
+    match rest.byte(0) {
         b'<' => {
             let once = with_equal(rest, Punctuator::Less, Punctuator::LessEqual);
             Some(doubled(
@@ -183,12 +183,12 @@ fn doubling(rest: &[u8]) -> Option<Element>
 }
 
 #[tactic(auto, unfolding(crate::specs::Marks::operator))]
-fn operator(rest: &[u8]) -> Option<Element>
-    requires { 0 < length rest.now }
-    ensures value { result ≡ spec.operator rest.now }
-    ensures within { IfSome result (λ element. element.len ≤ length rest.now) }
+fn operator<T: Text>(rest: T) -> Option<Element>
+    requires { 0 < length (T.bytes rest) }
+    ensures value { result ≡ spec.operator (T.bytes rest) }
+    ensures within { IfSome result (λ element. element.len ≤ length (T.bytes rest)) }
 {
-    match byte_at(rest, 0) {
+    match rest.byte(0) {
         b'.' => Some(dots(rest)),
         b'=' => Some(equals(rest)),
         b'!' => Some(bang(rest)),
@@ -215,12 +215,12 @@ fn operator(rest: &[u8]) -> Option<Element>
 
 /// The punctuator with which the bytes begin.
 #[tactic(auto, unfolding(crate::specs::Marks::punctuator))]
-pub fn punctuator(rest: &[u8]) -> Option<Element>
-    requires { 0 < length rest.now }
-    ensures value { result ≡ spec.punctuator rest.now }
-    ensures within { IfSome result (λ element. element.len ≤ length rest.now) }
+pub fn punctuator<T: Text>(rest: T) -> Option<Element>
+    requires { 0 < length (T.bytes rest) }
+    ensures value { result ≡ spec.punctuator (T.bytes rest) }
+    ensures within { IfSome result (λ element. element.len ≤ length (T.bytes rest)) }
 {
-    match lone(byte_at(rest, 0)) {
+    match lone(rest.byte(0)) {
         Some(alone) => Some(mark(alone, 1)),
         None => operator(rest),
     }

@@ -7,7 +7,7 @@ ghost use Rattle.js_lexer.specs.Numbers as spec;
 use crate::element::Element;
 use crate::fault::LexFaultKind;
 use crate::parts::{Part, has_byte, is_digit, name_start_len, run};
-use js_tokens::{TokenKind, byte_at};
+use js_tokens::{Text, TokenKind};
 
 // The radix that the letter behind a leading 0 tells, 0 where it tells none.
 fn prefix_radix(letter: u8) -> u32
@@ -31,10 +31,10 @@ fn number_of(len: usize) -> Element
 }
 
 // The whole number whose digits end there: one of any size where an `n` follows.
-fn whole_number(rest: &[u8], len: usize) -> Element
-    requires { len ≤ length rest.now }
-    ensures value { result ≡ spec.whole_number rest.now len }
-    ensures within { result.len ≤ length rest.now }
+fn whole_number<T: Text>(rest: T, len: usize) -> Element
+    requires { len ≤ length (T.bytes rest) }
+    ensures value { result ≡ spec.whole_number (T.bytes rest) len }
+    ensures within { result.len ≤ length (T.bytes rest) }
 {
     if has_byte(rest, len, b'n') {
         return Element {
@@ -47,24 +47,24 @@ fn whole_number(rest: &[u8], len: usize) -> Element
 
 // Where the fraction ends that may begin there.
 #[tactic(auto, unfolding(crate::specs::Numbers::fraction_end))]
-fn fraction_end(rest: &[u8], at: usize) -> usize
-    requires { at ≤ length rest.now }
-    ensures value { result ≡ spec.fraction_end rest.now at }
-    ensures within { result ≤ length rest.now }
+fn fraction_end<T: Text>(rest: T, at: usize) -> usize
+    requires { at ≤ length (T.bytes rest) }
+    ensures value { result ≡ spec.fraction_end (T.bytes rest) at }
+    ensures within { result ≤ length (T.bytes rest) }
 {
     if !has_byte(rest, at, b'.') {
         return at;
     }
-    if is_digit(10, byte_at(rest, at + 1)) {
+    if is_digit(10, rest.byte(at + 1)) {
         return run(Part::Digit(10), rest, at + 1);
     }
     at + 1
 }
 
 // Behind the sign that may stand there.
-fn sign_end(rest: &[u8], at: usize) -> usize
-    requires { at ≤ length rest.now }
-    ensures value { result ≡ spec.sign_end rest.now at }
+fn sign_end<T: Text>(rest: T, at: usize) -> usize
+    requires { at ≤ length (T.bytes rest) }
+    ensures value { result ≡ spec.sign_end (T.bytes rest) at }
 {
     if has_byte(rest, at, b'+') || has_byte(rest, at, b'-') {
         return at + 1;
@@ -74,34 +74,34 @@ fn sign_end(rest: &[u8], at: usize) -> usize
 
 // Where the exponent ends that may begin there.
 #[tactic(auto, unfolding(crate::specs::Numbers::exponent_end))]
-fn exponent_end(rest: &[u8], at: usize) -> usize
-    requires { at ≤ length rest.now }
-    ensures value { result ≡ spec.exponent_end rest.now at }
-    ensures within { result ≤ length rest.now }
+fn exponent_end<T: Text>(rest: T, at: usize) -> usize
+    requires { at ≤ length (T.bytes rest) }
+    ensures value { result ≡ spec.exponent_end (T.bytes rest) at }
+    ensures within { result ≤ length (T.bytes rest) }
 {
     if !has_byte(rest, at, b'e') && !has_byte(rest, at, b'E') {
         return at;
     }
     let digits = sign_end(rest, at + 1);
-    if is_digit(10, byte_at(rest, digits)) {
+    if is_digit(10, rest.byte(digits)) {
         return run(Part::Digit(10), rest, digits);
     }
     at
 }
 
-fn decimal_end(rest: &[u8], whole: usize) -> usize
-    requires { whole ≤ length rest.now }
-    ensures value { result ≡ spec.decimal_end rest.now whole }
-    ensures within { result ≤ length rest.now }
+fn decimal_end<T: Text>(rest: T, whole: usize) -> usize
+    requires { whole ≤ length (T.bytes rest) }
+    ensures value { result ≡ spec.decimal_end (T.bytes rest) whole }
+    ensures within { result ≤ length (T.bytes rest) }
 {
     exponent_end(rest, fraction_end(rest, whole))
 }
 
 // A 0 and more digits: octal if all of them are, and then without a fraction.
 #[tactic(auto, unfolding(crate::specs::Numbers::legacy_number))]
-fn legacy_number(rest: &[u8]) -> Element
-    ensures value { result ≡ spec.legacy_number rest.now }
-    ensures within { result.len ≤ length rest.now }
+fn legacy_number<T: Text>(rest: T) -> Element
+    ensures value { result ≡ spec.legacy_number (T.bytes rest) }
+    ensures within { result.len ≤ length (T.bytes rest) }
 {
     let whole = run(Part::BareDigit(10), rest, 0);
     if run(Part::BareDigit(8), rest, 0) == whole {
@@ -112,9 +112,9 @@ fn legacy_number(rest: &[u8]) -> Element
 
 // Where the digits end of a number without more than one leading 0.
 #[tactic(auto, unfolding(crate::specs::Numbers::whole_len))]
-fn whole_len(rest: &[u8]) -> usize
-    ensures value { result ≡ spec.whole_len rest.now }
-    ensures within { result ≤ length rest.now }
+fn whole_len<T: Text>(rest: T) -> usize
+    ensures value { result ≡ spec.whole_len (T.bytes rest) }
+    ensures within { result ≤ length (T.bytes rest) }
 {
     if has_byte(rest, 0, b'0') {
         return 1;
@@ -124,9 +124,9 @@ fn whole_len(rest: &[u8]) -> usize
 
 // Digits without a leading 0, the 0 alone, or none before a fraction.
 #[tactic(auto, unfolding(crate::specs::Numbers::decimal_number))]
-fn decimal_number(rest: &[u8]) -> Element
-    ensures value { result ≡ spec.decimal_number rest.now }
-    ensures within { result.len ≤ length rest.now }
+fn decimal_number<T: Text>(rest: T) -> Element
+    ensures value { result ≡ spec.decimal_number (T.bytes rest) }
+    ensures within { result.len ≤ length (T.bytes rest) }
 {
     let whole = whole_len(rest);
     if has_byte(rest, whole, b'n') {
@@ -137,18 +137,18 @@ fn decimal_number(rest: &[u8]) -> Element
 
 // The longest number, whatever follows.
 #[tactic(auto, unfolding(crate::specs::Numbers::numeral))]
-fn numeral(rest: &[u8]) -> Element
-    ensures value { result ≡ spec.numeral rest.now }
-    ensures within { result.len ≤ length rest.now }
+fn numeral<T: Text>(rest: T) -> Element
+    ensures value { result ≡ spec.numeral (T.bytes rest) }
+    ensures within { result.len ≤ length (T.bytes rest) }
 {
     if !has_byte(rest, 0, b'0') {
         return decimal_number(rest);
     }
-    let radix = prefix_radix(byte_at(rest, 1));
-    if is_digit(radix, byte_at(rest, 2)) {
+    let radix = prefix_radix(rest.byte(1));
+    if is_digit(radix, rest.byte(2)) {
         return whole_number(rest, run(Part::Digit(radix), rest, 2));
     }
-    if is_digit(10, byte_at(rest, 1)) {
+    if is_digit(10, rest.byte(1)) {
         return legacy_number(rest);
     }
     decimal_number(rest)
@@ -156,13 +156,13 @@ fn numeral(rest: &[u8]) -> Element
 
 /// The number with which the bytes begin.
 #[tactic(auto, unfolding(crate::specs::Numbers::number))]
-pub fn number(rest: &[u8]) -> Result<Element, LexFaultKind>
-    ensures value { result ≡ spec.number rest.now }
-    ensures within { IfOk result (λ number. number.len ≤ length rest.now) }
+pub fn number<T: Text>(rest: T) -> Result<Element, LexFaultKind>
+    ensures value { result ≡ spec.number (T.bytes rest) }
+    ensures within { IfOk result (λ number. number.len ≤ length (T.bytes rest)) }
 {
     let found = numeral(rest);
-    let behind = &rest[found.len..];
-    if is_digit(10, byte_at(behind, 0)) || name_start_len(behind) > 0 {
+    let behind = rest.after(found.len);
+    if is_digit(10, behind.byte(0)) || name_start_len(behind) > 0 {
         return Err(LexFaultKind::BadNumber);
     }
     Ok(found)

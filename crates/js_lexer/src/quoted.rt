@@ -7,15 +7,15 @@ ghost use Rattle.js_lexer.specs.Quoted as spec;
 use crate::element::Element;
 use crate::fault::LexFaultKind;
 use crate::parts::{Part, has_byte, regex_char_len, run};
-use js_tokens::{TemplatePart, TokenKind, byte_at};
+use js_tokens::{TemplatePart, Text, TokenKind};
 
 /// The string with which the bytes begin, which begin with a quote.
 #[tactic(auto, unfolding(crate::specs::Quoted::string))]
-pub fn string(rest: &[u8]) -> Result<Element, LexFaultKind>
-    ensures value { result ≡ spec.string rest.now }
-    ensures within { IfOk result (λ element. element.len ≤ length rest.now) }
+pub fn string<T: Text>(rest: T) -> Result<Element, LexFaultKind>
+    ensures value { result ≡ spec.string (T.bytes rest) }
+    ensures within { IfOk result (λ element. element.len ≤ length (T.bytes rest)) }
 {
-    let quote = byte_at(rest, 0);
+    let quote = rest.byte(0);
     let inside = run(Part::OfString(quote), rest, 1);
     if has_byte(rest, inside, quote) {
         return Ok(Element {
@@ -49,11 +49,11 @@ fn template_part(begins: bool, ends: bool) -> TemplatePart
 
 /// The part of a template with which the bytes begin, which begin with a backquote or `}`.
 #[tactic(auto, unfolding(crate::specs::Quoted::template))]
-pub fn template(rest: &[u8]) -> Result<Element, LexFaultKind>
-    ensures value { result ≡ spec.template rest.now }
-    ensures within { IfOk result (λ element. element.len ≤ length rest.now) }
+pub fn template<T: Text>(rest: T) -> Result<Element, LexFaultKind>
+    ensures value { result ≡ spec.template (T.bytes rest) }
+    ensures within { IfOk result (λ element. element.len ≤ length (T.bytes rest)) }
 {
-    let begins = byte_at(rest, 0) == b'`';
+    let begins = rest.byte(0) == b'`';
     let inside = run(Part::OfTemplate, rest, 1);
     if has_byte(rest, inside, b'`') {
         return Ok(Element {
@@ -72,8 +72,8 @@ pub fn template(rest: &[u8]) -> Result<Element, LexFaultKind>
 
 // The class with which the bytes begin, brackets included, 0 where it is open.
 #[tactic(auto, unfolding(crate::specs::Quoted::class_len))]
-fn class_len(rest: &[u8]) -> usize
-    ensures { result ≡ spec.class_len rest.now }
+fn class_len<T: Text>(rest: T) -> usize
+    ensures { result ≡ spec.class_len (T.bytes rest) }
 {
     let inside = run(Part::OfClass, rest, 1);
     if has_byte(rest, inside, b']') {
@@ -84,11 +84,11 @@ fn class_len(rest: &[u8]) -> usize
 
 // A `/` in a class does not end the expression.
 #[tactic(auto, unfolding(crate::specs::Quoted::regex_part_len))]
-fn regex_part_len(rest: &[u8]) -> usize
-    requires { 0 < length rest.now }
-    ensures { result ≡ spec.regex_part_len rest.now }
+fn regex_part_len<T: Text>(rest: T) -> usize
+    requires { 0 < length (T.bytes rest) }
+    ensures { result ≡ spec.regex_part_len (T.bytes rest) }
 {
-    let first = rest[0];
+    let first = rest.byte(0);
     if first == b'/' {
         return 0;
     }
@@ -100,9 +100,9 @@ fn regex_part_len(rest: &[u8]) -> usize
 
 // Where the body ends.
 #[tactic(auto, using(crate::proofs::Rows::walking_rows))]
-fn regex_body_end(rest: &[u8]) -> usize
-    ensures value { result ≡ spec.regex_body_end rest.now }
-    ensures within { result ≤ length rest.now }
+fn regex_body_end<T: Text>(rest: T) -> usize
+    ensures value { result ≡ spec.regex_body_end (T.bytes rest) }
+    ensures within { result ≤ length (T.bytes rest) }
 {
     let mut skip = 1;
     for at in 0..rest.len() {
@@ -110,7 +110,7 @@ fn regex_body_end(rest: &[u8]) -> usize
             skip -= 1;
             continue;
         }
-        let len = regex_part_len(&rest[at..]);
+        let len = regex_part_len(rest.after(at));
         if len == 0 {
             return at;
         }
@@ -122,9 +122,9 @@ fn regex_body_end(rest: &[u8]) -> usize
 /// The regular expression with which the bytes begin, which begin with `/` and not with `//` or
 /// `/*`. Its flags are what a name may go on with.
 #[tactic(auto, unfolding(crate::specs::Quoted::regex))]
-pub fn regex(rest: &[u8]) -> Result<Element, LexFaultKind>
-    ensures value { result ≡ spec.regex rest.now }
-    ensures within { IfOk result (λ element. element.len ≤ length rest.now) }
+pub fn regex<T: Text>(rest: T) -> Result<Element, LexFaultKind>
+    ensures value { result ≡ spec.regex (T.bytes rest) }
+    ensures within { IfOk result (λ element. element.len ≤ length (T.bytes rest)) }
 {
     let body = regex_body_end(rest);
     if !has_byte(rest, body, b'/') {

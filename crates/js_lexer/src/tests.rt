@@ -1,6 +1,6 @@
 //! Worked rows of the lexical grammar.
 
-use crate::{Cursor, LexFault, LexFaultKind, Refusal, SyntaxKind, next};
+use crate::{Cursor, LexFault, LexFaultKind, Refusal, SyntaxKind, next, scan};
 use cm_text::Source;
 use js_tokens::{Goal, Punctuator, TemplatePart, Token, TokenKind, Word};
 use std::alloc::{AllocError, Global};
@@ -85,6 +85,49 @@ fn reads_tokens(rt: HostRuntime) -> Result<(), Fail> {
             _ => assert!(rt; false, "{text}"),
         }
     }
+    Ok(())
+}
+
+#[test]
+fn reads_two_pieces(rt: HostRuntime) -> Result<(), Fail> {
+    use Goal::{Div, RegExp, TemplateTail};
+    use Punctuator as p;
+    use TemplatePart as part;
+    use TokenKind as kind;
+    // a text and a goal; the token's kind, start and end, wherever the text is parted
+    let cases = [
+        ("instanceof ", Div, kind::Name(Word::Instanceof), 0, 10),
+        ("\\u{61}b", Div, kind::Name(Word::Plain), 0, 7),
+        ("\u{3042}c", Div, kind::Name(Word::Plain), 0, 4),
+        ("1_0.5e-7", Div, kind::Number, 0, 8),
+        ("0xFfn", Div, kind::BigInt, 0, 5),
+        ("'\\x41\\\r\n'", Div, kind::Quoted, 0, 9),
+        ("`a${", Div, kind::Template(part::Head), 0, 4),
+        ("}b`", TemplateTail, kind::Template(part::Tail), 0, 3),
+        ("/[/]/g", RegExp, kind::Regex, 0, 6),
+        ("/*\u{2028}*/\r\nif", Div, kind::Name(Word::If), 9, 11),
+        ("?.5", Div, kind::Punctuator(p::Question), 0, 1),
+        ("?.a", Div, kind::Punctuator(p::OptionalDot), 0, 2),
+        ("\u{FEFF}//\r", Div, kind::End, 6, 6),
+    ];
+    for (text, goal, kind, start, end) in cases {
+        let bytes = text.as_bytes();
+        assert!(rt; bytes.len() < 100);
+        for at in 0..=bytes.len() {
+            match scan(&bytes[..at], &bytes[at..], goal) {
+                Ok(token) => {
+                    assert!(rt; token.kind == kind, "{text} {at}");
+                    assert_eq!(rt; token.start, start, "{text} {at}");
+                    assert_eq!(rt; token.end, end, "{text} {at}");
+                }
+                Err(_) => assert!(rt; false, "{text} {at}"),
+            }
+        }
+    }
+    let open = scan(b" 'a", b"\n'", Div);
+    assert!(rt;
+        matches!(open, Err(fault) if fault.at == 1 && fault.kind == LexFaultKind::OpenString)
+    );
     Ok(())
 }
 

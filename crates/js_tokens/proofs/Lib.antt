@@ -1,3 +1,4 @@
+pub mod JoinedLemmas
 pub mod NameLemmas
 pub mod TextLemmas
 pub mod WordLemmas

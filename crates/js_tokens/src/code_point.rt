@@ -3,6 +3,8 @@
 ghost use Rattle.std.specs.Prelude.{◌≡◌, ◌<◌, ◌≤◌, ◌^◌, ◌&&◌, nat_lt, slice_index};
 ghost use Rattle.js_tokens.specs.Characters.{low_six, char_len, first_char, starts_name, continues_name};
 
+use crate::readable::Text;
+
 /// The byte at the offset, 0 past the end.
 pub fn byte_at(bytes: &[u8], at: usize) -> u8
     ensures { result ≡ slice_index bytes.now at }
@@ -10,11 +12,11 @@ pub fn byte_at(bytes: &[u8], at: usize) -> u8
     if at < bytes.len() { bytes[at] } else { 0 }
 }
 
-fn low_six(bytes: &[u8], at: usize) -> u32
-    ensures value { result ≡ low_six bytes.now at }
+fn low_six<T: Text>(text: T, at: usize) -> u32
+    ensures value { result ≡ low_six (T.bytes text) at }
     ensures small { result < 0x40 }
 {
-    u32::from(byte_at(bytes, at)) % 0x40
+    u32::from(text.byte(at)) % 0x40
 }
 
 /// How many bytes a character takes that begins with this byte.
@@ -31,25 +33,25 @@ pub fn char_len(lead: u8) -> usize
     }
 }
 
-/// The code point of the character that the bytes begin with.
+/// The code point of the character that the text begins with.
 #[tactic(auto, unfolding(crate::specs::Characters::first_char))]
-pub fn first_char(bytes: &[u8]) -> u32
-    ensures value { result ≡ first_char bytes.now }
+pub fn first_char<T: Text>(text: T) -> u32
+    ensures value { result ≡ first_char (T.bytes text) }
     ensures small { result < 2 ^ 21 }
 {
-    let lead = u32::from(byte_at(bytes, 0));
+    let lead = u32::from(text.byte(0));
     if lead < 0x80 {
         return lead;
     }
-    let second = low_six(bytes, 1);
+    let second = low_six(text, 1);
     if lead < 0xE0 {
         return lead % 0x20 * 0x40 + second;
     }
-    let third = low_six(bytes, 2);
+    let third = low_six(text, 2);
     if lead < 0xF0 {
         return (lead % 0x10 * 0x40 + second) * 0x40 + third;
     }
-    let fourth = low_six(bytes, 3);
+    let fourth = low_six(text, 3);
     ((lead % 0x08 * 0x40 + second) * 0x40 + third) * 0x40 + fourth
 }
 

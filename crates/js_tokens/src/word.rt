@@ -3,7 +3,7 @@
 ghost use Rattle.js_tokens.specs.Words.{word_spelling, word_number, reserved, words_on, first_spelled, word_of};
 ghost use Rattle.std.specs.Prelude.{◌≡◌, bytes_eq};
 
-use crate::code_point::byte_at;
+use crate::readable::Text;
 
 /// A word of the grammar: the reserved words of ECMA-262, clause 12.7.2, with `let`, and then those
 /// that have a meaning at some places alone.
@@ -235,10 +235,10 @@ impl Word {
 
     /// The word that the bytes of a name spell, `Plain` where they spell none.
     #[tactic(auto, using(crate::proofs::WordLemmas::words_on_enough))]
-    pub fn of(name: &[u8]) -> Word
-        ensures { result ≡ word_of name.now }
+    pub fn of<T: Text>(name: T) -> Word
+        ensures { result ≡ word_of (T.bytes name) }
     {
-        first_spelled(words_on(byte_at(name, 0)), name)
+        first_spelled(words_on(name.byte(0)), name)
     }
 
     /// The word that the code units of a name spell, `Plain` where they spell none.
@@ -287,11 +287,11 @@ fn words_on(first: u8) -> &'static [Word]
     }
 }
 
-fn first_spelled(words: &[Word], name: &[u8]) -> Word
-    ensures { result ≡ first_spelled words.now name.now }
+fn first_spelled<T: Text>(words: &[Word], name: T) -> Word
+    ensures { result ≡ first_spelled words.now (T.bytes name) }
 {
     for word in words {
-        if word.spelling().as_bytes() == name {
+        if name.is(word.spelling().as_bytes()) {
             return *word;
         }
     }

@@ -1,17 +1,16 @@
 use Rattle.std.proofs.Common.{◌∙◌, ap, sym, arith}
-use Rattle.std.proofs.lemmas.List.{take_rest}
 use Rattle.js_lexer.proofs.Rows.{row_end-part, row_end-stop}
 use Rattle.js_lexer.specs.Blanks.{blank_len}
 use Rattle.js_lexer.proofs.blanks.gap_len.Goals as goal
 
 pub returns-then-len-eq0-clause-value : goal.returns-then-len-eq0-clause-value
-returns-then-len-eq0-clause-value c =
-    let len = c.blank_len-len.ensures ∙ ap (blank_len) (take_rest c.args.rest.now c.loop-at.at) in
-    let stop = row_end-stop (blank_len) c.loop-at.skip c.loop-at.at c.args.rest.now (omega arith) (omega arith) (sym len ∙ c.if-len-eq0.true) in
+returns-then-len-eq0-clause-value g c =
+    let len = c.blank_len-len.ensures ∙ ap (blank_len) c.after.ensures in
+    let stop = row_end-stop (blank_len) c.loop-at.skip c.loop-at.at (g.T.Text.bytes c.args.rest) (omega arith) (omega arith) (sym len ∙ c.if-len-eq0.true) in
     sym stop ∙ c.loop-at.invariant
 
 pub loop-at-preserved : goal.loop-at-preserved
-loop-at-preserved c =
-    let len = c.blank_len-len.ensures ∙ ap (blank_len) (take_rest c.args.rest.now c.loop-at.at) in
-    let on = row_end-part (blank_len) c.loop-at.skip c.loop-at.at c.blank_len-len.result c.args.rest.now (omega arith) (omega arith) len (omega arith) in
+loop-at-preserved g c =
+    let len = c.blank_len-len.ensures ∙ ap (blank_len) c.after.ensures in
+    let on = row_end-part (blank_len) c.loop-at.skip c.loop-at.at c.blank_len-len.result (g.T.Text.bytes c.args.rest) (omega arith) (omega arith) len (omega arith) in
     sym on ∙ c.loop-at.invariant

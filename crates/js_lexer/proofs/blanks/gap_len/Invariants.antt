@@ -4,4 +4,4 @@ use Rattle.js_lexer.specs.Parts.{row_end}
 use Rattle.js_lexer.proofs.blanks.gap_len.Given as goal
 
 abbrev pub invariant-loop-at : goal.invariant-loop-at
-invariant-loop-at l = row_end blank_len l.skip l.at (drop l.at l.rest) ≡ gap_len l.rest
+invariant-loop-at g l = row_end blank_len l.skip l.at (drop l.at (g.T.Text.bytes l.rest)) ≡ gap_len (g.T.Text.bytes l.rest)
