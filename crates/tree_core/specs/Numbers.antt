@@ -49,4 +49,3 @@ nowhere = record { start = 0; end = 0 }
 abbrev pub span_of : List Span → Option ℕ → Span
 span_of spans None = nowhere
 span_of spans (Some n) = unwrap_or (slice_get spans n) nowhere
-
