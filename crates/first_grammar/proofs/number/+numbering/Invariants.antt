@@ -5,7 +5,7 @@ use Rattle.first_grammar.proofs.Walked.{all_slots, all_places, SlotsWalked, Plac
 use Rattle.first_grammar.proofs.number.+numbering.Given as goal
 
 abbrev pub decreases-number_node : goal.decreases-number_node
-decreases-number_node l = 5 * count (syntax l.tree)
+decreases-number_node l = 5 * count (syntax l.tree.value)
 
 abbrev pub decreases-number_slots : goal.decreases-number_slots
 decreases-number_slots l = 5 * slots_count (all_slots l.slots) + 4
