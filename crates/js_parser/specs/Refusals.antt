@@ -1,9 +1,24 @@
--- Where a text is refused.
-use Rattle.std.specs.Prelude.{ℕ, ◌≤◌}
+-- Where a text is refused, and what stands there.
+use Rattle.std.specs.Prelude.{ℕ, ◌≤◌, ◌≡◌, List, Err}
+use Rattle.js_tokens.specs.declared.token.Goal.TheVariants.{RegExpOrTemplateTail}
+use Rattle.js_lexer.specs.declared.fault.LexFault.{LexFault}
 use Rattle.js_lexer.specs.declared.fault.Refusal.{Refusal}
 use Rattle.js_lexer.specs.declared.fault.Refusal.TheVariants.{Syntax, NoMemory}
+use Rattle.js_lexer.specs.declared.fault.SyntaxKind.{SyntaxKind}
+use Rattle.js_lexer.specs.declared.fault.SyntaxKind.TheVariants.{Lex}
+use Rattle.js_lexer.specs.Scan.{scan}
 
 -- the refusal names a place of a text of the length, or is for want of memory
 abbrev pub RefusedWithin : ℕ → Refusal → Type 0
 RefusedWithin len (Syntax fault) = fault.at ≤ len
 RefusedWithin len NoMemory = Unit
+
+-- a broken element is what the lexer finds at the offset, in the goal that takes every element: `/` begins a regular expression, and `}` goes on with a template (ECMA-262, clause 12)
+abbrev pub BrokenAt : List ℕ → ℕ → SyntaxKind → Type 0
+BrokenAt text at (Lex kind) = scan text at RegExpOrTemplateTail ≡ Err (record { at = at; kind = kind })
+BrokenAt text at _ = Unit
+
+-- a refusal for a broken element is at one
+abbrev pub RefusedBroken : List ℕ → Refusal → Type 0
+RefusedBroken text (Syntax fault) = BrokenAt text fault.at fault.kind
+RefusedBroken text NoMemory = Unit

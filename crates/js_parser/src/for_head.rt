@@ -4,6 +4,7 @@ ghost use Rattle.js_parser.specs.Callable.{Callable};
 
 use crate::grammar::Grammar;
 use crate::grown::{Children, Grown};
+use crate::look::{is_word, second_kind};
 use crate::reader::Reader;
 use crate::tokens::{expect_mark, expect_word};
 use crate::want::{Context, Want};
@@ -11,7 +12,6 @@ use js_forms::{Category, Form, Variable};
 use js_lexer::{Cursor, Refusal};
 use js_tokens::{Punctuator, Word};
 use std::alloc::Global;
-use tree_core::Scalar;
 
 // The declaration that begins with the next token.
 fn variable(cursor: &Cursor<'_>) -> Option<Variable> {
@@ -41,15 +41,10 @@ fn each_form(cursor: &Cursor<'_>, awaits: bool) -> Option<Form> {
     None
 }
 
-// Whether it is the name `async`, which may not stand before `of`.
-fn is_bare_async(grown: &Grown) -> bool {
-    if grown.grouped || !grown.is_name() {
-        return false;
-    }
-    match grown.tree.scalars.get(0) {
-        Some(Scalar::Text(units)) => js_tokens::Word::of_units(units.get()) == Word::Async,
-        _ => false,
-    }
+// Whether `async` comes next, and `of` behind it. A plain `for` begins with an arrow there or with
+// nothing, and one with `await` with the name (ECMA-262, clause 14.7.5).
+fn begins_async_of(cursor: &Cursor<'_>) -> bool {
+    cursor.sees_word(Word::Async) && is_word(second_kind(cursor), Word::Of)
 }
 
 impl<F: Fn(Global, &mut Reader<'_>, u32, Want) -> Result<Grown, Refusal>> Grammar<F> {
@@ -129,14 +124,23 @@ impl<F: Fn(Global, &mut Reader<'_>, u32, Want) -> Result<Grown, Refusal>> Gramma
     ) -> Result<Grown, Refusal>
         requires { Callable self.now.depth (F.pre self.now.node) }
     {
+        let async_of = begins_async_of(&reader.cursor);
+        let category = if awaits && async_of {
+            Category::Name
+        } else {
+            Category::Cover
+        };
         let head = Want {
-            category: Category::Cover,
+            category,
             least: 0,
             context: context.without_in(),
         };
         let first = self.node(reader, head)?;
         if let Some(each) = each_form(&reader.cursor, awaits) {
-            let left = self.each_target(reader, each, first)?;
+            if async_of && !awaits {
+                return Err(reader.cursor.refuse());
+            }
+            let left = self.each_target(reader, first)?;
             return self.each(reader, each, start, context, left);
         }
         if awaits || first.nature.loose {
@@ -146,17 +150,11 @@ impl<F: Fn(Global, &mut Reader<'_>, u32, Want) -> Result<Grown, Refusal>> Gramma
     }
 
     // What the loop over something assigns to.
-    fn each_target(
-        &self,
-        reader: &mut Reader<'_>,
-        each: Form,
-        first: Grown,
-    ) -> Result<Grown, Refusal> {
+    fn each_target(&self, reader: &mut Reader<'_>, first: Grown) -> Result<Grown, Refusal> {
         if first.is_cover() {
             return self.pattern_of(reader, first, false);
         }
-        let is_async = each != Form::ForIn && is_bare_async(&first);
-        if is_async || !first.is_simple() {
+        if !first.is_simple() {
             return Err(reader.cursor.refuse());
         }
         Ok(first)

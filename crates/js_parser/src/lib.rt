@@ -23,8 +23,6 @@ mod reading;
 mod single;
 mod statement;
 mod template;
-#[cfg(test)]
-mod tests;
 mod tokens;
 mod want;
 

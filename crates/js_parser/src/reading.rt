@@ -1,10 +1,11 @@
 //! Whole programs.
 
-ghost use Rattle.std.specs.Prelude.{◌≡◌, ◌≤◌, length, IfErr, IfOk};
+ghost use Rattle.std.specs.Prelude.{◌≡◌, ◌≤◌, length, true, IfErr, IfOk};
+ghost use Rattle.js_lexer.specs.Cursors.{is_done};
 ghost use Rattle.tree_core.specs.Height.{height};
 ghost use Rattle.tree_core.specs.View.{syntax};
 ghost use Rattle.js_parser.specs.Callable.{Callable};
-ghost use Rattle.js_parser.specs.Refusals.{RefusedWithin};
+ghost use Rattle.js_parser.specs.Refusals.{BrokenAt, RefusedBroken, RefusedWithin};
 
 use crate::grammar::{Grammar, node};
 use crate::grown::{Children, Grown, Parts};
@@ -12,8 +13,8 @@ use crate::reader::{Quasi, Reader};
 use crate::want::{Context, Want};
 use cm_text::Source;
 use js_forms::{Category, Form};
-use js_lexer::{Cursor, Refusal, SyntaxFault, SyntaxKind};
-use js_tokens::TokenKind;
+use js_lexer::{Cursor, Refusal, SyntaxFault, SyntaxKind, next};
+use js_tokens::{Goal, TokenKind};
 use sqlite_items::Items;
 use std::alloc::Global;
 use tree_core::{Scalar, Tree, height};
@@ -79,23 +80,46 @@ fn read_from(
     })
 }
 
-// The refusal, at a place within the text.
-fn within(refusal: Refusal, len: u32) -> Refusal
-    ensures { RefusedWithin len result }
+// The kind of a refusal at the offset: a broken element only where the lexer finds one there.
+fn kind_at(source: &Source, at: u32, kind: SyntaxKind) -> SyntaxKind
+    requires { at ≤ length source.now }
+    ensures { BrokenAt source.now at result }
+{
+    match kind {
+        SyntaxKind::Lex(_) => match next(source, at, Goal::RegExpOrTemplateTail) {
+            Err(fault) => {
+                if fault.at == at {
+                    return SyntaxKind::Lex(fault.kind);
+                }
+                SyntaxKind::Unexpected
+            }
+            Ok(_) => SyntaxKind::Unexpected,
+        },
+        SyntaxKind::Unexpected => SyntaxKind::Unexpected,
+        SyntaxKind::Nesting => SyntaxKind::Nesting,
+    }
+}
+
+// The refusal, at a place within the text and of the kind that it has there.
+fn stated(source: &Source, refusal: Refusal) -> Refusal
+    ensures within { RefusedWithin (length source.now) result }
+    ensures broken { RefusedBroken source.now result }
 {
     match refusal {
         Refusal::NoMemory => Refusal::NoMemory,
-        Refusal::Syntax(SyntaxFault { at, kind }) => Refusal::Syntax(SyntaxFault {
-            at: at.min(len),
-            kind,
-        }),
+        Refusal::Syntax(SyntaxFault { at, kind }) => {
+            let at = at.min(source.bytes().len() as u32);
+            let kind = kind_at(source, at, kind);
+            Refusal::Syntax(SyntaxFault { at, kind })
+        }
     }
 }
 
 /// The tree of the text from the offset on, with the first line's text as its interpreter.
 ///
-/// That the cursor is one over this text, and how high the tree is, hold by the way it is read. No
-/// clause of the rules carries that up to here, so it is looked at once more.
+/// That the cursor is one over this text and at its end, how high the tree is, and that the lexer
+/// finds a broken element where the cursor met one, hold by the way it is read. No clause of the
+/// rules carries that up to here, so it is looked at once more.
 pub fn program(
     alloc: Global,
     source: &Source,
@@ -103,20 +127,25 @@ pub fn program(
     interpreter: Scalar,
 ) -> Result<Read<'_>, Refusal>
     ensures refused { IfErr result (RefusedWithin (length source.now)) }
+    ensures broken { IfErr result (RefusedBroken source.now) }
     ensures text { IfOk result (λ read. length read.cursor.text ≡ length source.now) }
+    ensures whole { IfOk result (λ read. is_done read.cursor ≡ true) }
     ensures low { IfOk result (λ read. height (syntax read.tree) ≤ 1000) }
 {
-    let len = source.bytes().len();
+    let at = source.bytes().len() as u32;
     match read_from(alloc, source, from, interpreter) {
-        Err(refusal) => Err(within(refusal, len as u32)),
+        Err(refusal) => Err(stated(source, refusal)),
         Ok(read) => {
-            let fits = read.cursor.source().bytes().len() == len;
-            if fits && height(&read.tree) <= MOST_LEVELS {
-                return Ok(read);
+            let fits = read.cursor.source().bytes().len() == source.bytes().len();
+            if !fits || !read.cursor.is_done() {
+                let kind = SyntaxKind::Unexpected;
+                return Err(Refusal::Syntax(SyntaxFault { at, kind }));
             }
-            let at = len as u32;
-            let kind = SyntaxKind::Nesting;
-            Err(Refusal::Syntax(SyntaxFault { at, kind }))
+            if height(&read.tree) > MOST_LEVELS {
+                let kind = SyntaxKind::Nesting;
+                return Err(Refusal::Syntax(SyntaxFault { at, kind }));
+            }
+            Ok(read)
         }
     }
 }

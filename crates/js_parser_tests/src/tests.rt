@@ -1,8 +1,8 @@
 //! Sources that are read, and sources that are refused at a place.
 
-use crate::program;
 use cm_text::Source;
 use js_lexer::Refusal;
+use js_parser::program;
 use std::alloc::Global;
 use std::test::Fail;
 use tree_core::Scalar;
@@ -23,7 +23,7 @@ fn refused(alloc: Global, text: &str) -> Result<Option<u32>, Fail> {
 
 #[test]
 fn reads_programs(rt: HostRuntime) -> Result<(), Fail> {
-    let cases: [&str; 65] = [
+    let cases: [&str; 67] = [
         "",
         "a;",
         "a\n++b",
@@ -88,6 +88,8 @@ fn reads_programs(rt: HostRuntime) -> Result<(), Fail> {
         "a => b => c; a => ({}); a => {}\n[b]",
         "x = a => { b }\n/c/g",
         "for (a of (b, c)) d; for ((async) of a) b; for (async in a) b",
+        "for await (async of a) b; for await (async\nof of) b; for (async of => a; ; ) b; for (\\u0061sync of a) b",
+        "function* f() { yield *\n a; yield\n/b/ }",
         "#!/usr",
     ];
     for text in cases {
@@ -103,7 +105,7 @@ fn reads_programs(rt: HostRuntime) -> Result<(), Fail> {
 
 #[test]
 fn refuses_at_the_place(rt: HostRuntime) -> Result<(), Fail> {
-    let cases: [(&str, u32); 62] = [
+    let cases: [(&str, u32); 65] = [
         ("a ?? b || c", 7),
         ("a || b ?? c", 7),
         ("a && b ?? c", 7),
@@ -160,6 +162,9 @@ fn refuses_at_the_place(rt: HostRuntime) -> Result<(), Fail> {
         ("throw\na", 6),
         ("for (a of b, c) d", 11),
         ("for (async of a) b", 14),
+        ("for (async\nof a) b", 11),
+        ("for await (async a of b) c", 19),
+        ("function* f() { yield\n* a }", 22),
         ("for await (a in b) c", 13),
         ("`\\u`", 0),
         ("export {if}", 11),
