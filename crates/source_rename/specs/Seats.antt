@@ -22,10 +22,10 @@ abbrev pub truth_at : Option Scalar → Bool
 truth_at (Some (Truth truth)) = truth
 truth_at _ = false
 
--- what a `for of` assigns to, in a rename to this word
-abbrev pub head_seat : Word → Seat
-head_seat w.Async = Head
-head_seat _ = Free
+-- what a `for of` assigns to, in a rename to this word; behind `for await` every name may stand bare (ECMA-262, clause 14.7.5)
+abbrev pub head_seat : Word → Bool → Seat
+head_seat w.Async is_await = if is_await then Free else Head
+head_seat _ _ = Free
 
 -- a key that is not computed, of a field that is static or not
 abbrev pub plain_key_seat : Word → Bool → Seat
@@ -40,7 +40,7 @@ key_seat word scalars = if truth_at (slice_get scalars 0) then Free else plain_k
 
 -- the seat of a node in the first slot of a node of this kind and these scalars (58 ForOfStatement, 71 PropertyDefinition)
 abbrev pub first_seat : Word → ℕ → List Scalar → Seat
-first_seat word kind scalars = if kind == 58 then head_seat word else (if kind == 71 then key_seat word scalars else Free)
+first_seat word kind scalars = if kind == 58 then head_seat word (truth_at (slice_get scalars 0)) else (if kind == 71 then key_seat word scalars else Free)
 
 abbrev pub kind_found : Result Token LexFault → TokenKind
 kind_found (Ok token) = token.kind

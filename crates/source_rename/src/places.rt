@@ -47,11 +47,18 @@ fn truth_at(tree: &Tree, at: usize) -> bool
     }
 }
 
-fn head_seat(word: Word) -> Seat
-    ensures { result ≡ spec.head_seat word }
+// The seat of what a `for of` assigns to. Behind `for await` every name may stand bare.
+fn head_seat(word: Word, is_await: bool) -> Seat
+    ensures { result ≡ spec.head_seat word is_await }
 {
     match word {
-        Word::Async => Seat::Head,
+        Word::Async => {
+            if is_await {
+                Seat::Free
+            } else {
+                Seat::Head
+            }
+        }
         _ => Seat::Free,
     }
 }
@@ -89,7 +96,7 @@ pub fn first_seat(word: Word, tree: &Tree) -> Seat
     ensures { result ≡ spec.first_seat word tree.now.kind tree.now.scalars }
 {
     if tree.kind == Kind::ForOfStatement.number() {
-        return head_seat(word);
+        return head_seat(word, truth_at(tree, 0));
     }
     if tree.kind == Kind::PropertyDefinition.number() {
         return key_seat(word, tree);
