@@ -18,8 +18,6 @@ mod session;
 mod sight;
 mod status;
 mod stop;
-#[cfg(test)]
-mod tests;
 mod transform;
 mod walking;
 mod writing;

@@ -12,8 +12,6 @@ pub mod number;
 pub mod parser;
 pub mod reader;
 pub mod table;
-#[cfg(test)]
-mod tests;
 pub mod words;
 
 pub use error::ReadError;

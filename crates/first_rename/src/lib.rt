@@ -6,8 +6,6 @@
 
 mod names;
 mod patch;
-#[cfg(test)]
-mod tests;
 
 pub use names::{count, is_plain_name};
 pub use patch::{edits, rename};

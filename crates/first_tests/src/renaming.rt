@@ -1,7 +1,7 @@
 //! Whole renames, from the source to the new text.
 
-use crate::{count, is_plain_name, rename};
 use first_grammar::parse;
+use first_rename::{count, is_plain_name, rename};
 use std::test::Fail;
 
 /// A source, the old name, the new one, how many identifiers have the old one, and the new text.

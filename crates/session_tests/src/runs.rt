@@ -1,9 +1,9 @@
 //! Runs over files in memory.
 
-use crate::{Status, run};
 use cm_store::{
     Calls, Files, MemorySink, MemoryStore, Store, StoredFile, UnnamedCount, UnnamedList,
 };
+use codemod_cmd::{Status, run};
 use sqlite_items::Items;
 use std::alloc::{AllocError, Global};
 use std::test::Fail;

@@ -1,6 +1,6 @@
 ghost use Rattle.std.specs.Prelude.{◌≤◌, length};
 
-use crate::{ReadError, parse};
+use first_grammar::{ReadError, parse};
 use std::alloc::{AllocError, Global};
 use std::test::Fail;
 use tree_core::Span;

@@ -1,0 +1,6 @@
+//! Whole runs of the session over files in memory. They stand in a crate of their own, since a crate
+//! with tests is proved with them and without.
+#![tactic(auto)]
+
+#[cfg(test)]
+mod runs;
