@@ -1,3 +1,4 @@
 pub mod Values
 pub mod Below
 pub mod Found
+pub mod Changes

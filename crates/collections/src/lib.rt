@@ -7,6 +7,7 @@
 
 mod ancestors;
 mod below;
+mod changing;
 mod distinct;
 mod fault;
 mod finding;
@@ -18,6 +19,7 @@ mod reading;
 mod tests;
 
 pub use ancestors::closest;
+pub use changing::{insert_after, insert_before, remove, replace_with};
 pub use fault::ListFault;
 pub use finding::{filter, find};
 pub use list::{MOST_ITEMS, Paths, at};
