@@ -4,3 +4,7 @@ pub mod Pieces
 pub mod Shapes
 pub mod Spellings
 pub mod Spells
+pub mod Reading
+pub mod Slots
+pub mod Choice
+pub mod Edges

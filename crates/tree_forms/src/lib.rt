@@ -4,8 +4,20 @@
 //! `specs/Spellings.antt` makes of the table of `js_forms`.
 #![tactic(auto)]
 
+mod choosing;
 mod context;
+mod edges;
+mod fronts;
 mod places;
+mod reading;
+mod slot_def;
+mod slots;
+#[cfg(test)]
+mod tests;
 
+pub use choosing::form;
 pub use context::Context;
+pub use edges::level;
 pub use places::{is_declaration, is_statement, takes};
+pub use slot_def::{Change, SlotCategory, SlotDef, Variant};
+pub use slots::slot;

@@ -190,7 +190,7 @@ fn is_class_item(form: Form) -> bool
     }
 }
 
-fn same_flow(one: Flow, other: Flow) -> bool
+pub fn same_flow(one: Flow, other: Flow) -> bool
     ensures { result ≡ spec.same_flow one other }
 {
     match (one, other) {

@@ -1,0 +1,682 @@
+//! Which form spells a tree.
+
+ghost use Rattle.std.specs.Prelude.{◌≡◌, slice_get};
+ghost use Rattle.tree_core.specs.View.{syntax};
+ghost use Rattle.tree_forms.specs.Choice as spec;
+
+use crate::fronts::has_scalars;
+use crate::places::same_flow;
+use crate::reading::{child, is_text_at, is_truth_at};
+use crate::slot_def::{SlotCategory, SlotDef, Variant};
+use js_forms::{
+    Access, Category, Flow, Form, Key, Link, Operator, Sort, Standing, Variable, level,
+};
+use js_tokens::{Punctuator, Word};
+use tree_core::{Scalars, Tree};
+use type_defs::Kind;
+
+/// The operators of updates (ECMA-262, clause 13.4).
+const UPDATES: [Operator; 2] = [
+    Operator::Mark(Punctuator::PlusPlus),
+    Operator::Mark(Punctuator::MinusMinus),
+];
+
+/// The operators before one operand (clause 13.5).
+const UNARIES: [Operator; 7] = [
+    Operator::Mark(Punctuator::Plus),
+    Operator::Mark(Punctuator::Minus),
+    Operator::Mark(Punctuator::Bang),
+    Operator::Mark(Punctuator::Tilde),
+    Operator::Word(Word::Typeof),
+    Operator::Word(Word::Void),
+    Operator::Word(Word::Delete),
+];
+
+/// The operators between two operands (clauses 13.6 to 13.12).
+const BINARIES: [Operator; 22] = [
+    Operator::Mark(Punctuator::Bar),
+    Operator::Mark(Punctuator::Caret),
+    Operator::Mark(Punctuator::Ampersand),
+    Operator::Mark(Punctuator::Equal),
+    Operator::Mark(Punctuator::NotEqual),
+    Operator::Mark(Punctuator::StrictEqual),
+    Operator::Mark(Punctuator::StrictNotEqual),
+    Operator::Mark(Punctuator::Less),
+    Operator::Mark(Punctuator::Greater),
+    Operator::Mark(Punctuator::LessEqual),
+    Operator::Mark(Punctuator::GreaterEqual),
+    Operator::Mark(Punctuator::ShiftLeft),
+    Operator::Mark(Punctuator::ShiftRight),
+    Operator::Mark(Punctuator::ShiftRightUnsigned),
+    Operator::Mark(Punctuator::Plus),
+    Operator::Mark(Punctuator::Minus),
+    Operator::Mark(Punctuator::Star),
+    Operator::Mark(Punctuator::Slash),
+    Operator::Mark(Punctuator::Percent),
+    Operator::Mark(Punctuator::StarStar),
+    Operator::Word(Word::In),
+    Operator::Word(Word::Instanceof),
+];
+
+/// The logical operators (clause 13.13).
+const LOGICALS: [Operator; 3] = [
+    Operator::Mark(Punctuator::AndAnd),
+    Operator::Mark(Punctuator::OrOr),
+    Operator::Mark(Punctuator::Nullish),
+];
+
+/// The operators of assignments (clause 13.15).
+const ASSIGNMENTS: [Operator; 16] = [
+    Operator::Mark(Punctuator::Assign),
+    Operator::Mark(Punctuator::PlusAssign),
+    Operator::Mark(Punctuator::MinusAssign),
+    Operator::Mark(Punctuator::StarAssign),
+    Operator::Mark(Punctuator::SlashAssign),
+    Operator::Mark(Punctuator::PercentAssign),
+    Operator::Mark(Punctuator::StarStarAssign),
+    Operator::Mark(Punctuator::ShiftLeftAssign),
+    Operator::Mark(Punctuator::ShiftRightAssign),
+    Operator::Mark(Punctuator::ShiftRightUnsignedAssign),
+    Operator::Mark(Punctuator::AmpersandAssign),
+    Operator::Mark(Punctuator::BarAssign),
+    Operator::Mark(Punctuator::CaretAssign),
+    Operator::Mark(Punctuator::AndAssign),
+    Operator::Mark(Punctuator::OrAssign),
+    Operator::Mark(Punctuator::NullishAssign),
+];
+
+// The first of the operators that the node's first scalar spells.
+fn operator_in(operators: &[Operator], scalars: &Scalars) -> Option<Operator>
+    ensures { result ≡ spec.operator_in operators.now (slice_get scalars.now 0) }
+{
+    for operator in operators {
+        if is_text_at(scalars, 0, operator.spelling()) {
+            return Some(*operator);
+        }
+    }
+    None
+}
+
+fn key_at(scalars: &Scalars, number: usize) -> Key
+    ensures { result ≡ spec.key_at (slice_get scalars.now number) }
+{
+    if is_truth_at(scalars, number, true) {
+        Key::Computed
+    } else {
+        Key::Plain
+    }
+}
+
+fn standing_at(scalars: &Scalars, number: usize) -> Standing
+    ensures { result ≡ spec.standing_at (slice_get scalars.now number) }
+{
+    if is_truth_at(scalars, number, true) {
+        Standing::Static
+    } else {
+        Standing::Instance
+    }
+}
+
+fn link_at(scalars: &Scalars, number: usize) -> Link
+    ensures { result ≡ spec.link_at (slice_get scalars.now number) }
+{
+    if is_truth_at(scalars, number, true) {
+        Link::Optional
+    } else {
+        Link::Plain
+    }
+}
+
+// `async` and `generator` of a function.
+fn flow_in(scalars: &Scalars) -> Flow
+    ensures { result ≡ spec.flow_in scalars.now }
+{
+    Flow::new(is_truth_at(scalars, 0, true), is_truth_at(scalars, 1, true))
+}
+
+// How the value of a method runs.
+fn value_flow(tree: &Tree) -> Flow
+    ensures { result ≡ spec.value_flow (syntax tree.now) }
+{
+    match child(tree, 1) {
+        Some(value) => flow_in(&value.scalars),
+        None => Flow::Plain,
+    }
+}
+
+fn sort_in(scalars: &Scalars) -> Sort
+    ensures { result ≡ spec.sort_in scalars.now }
+{
+    if is_text_at(scalars, 0, "string") {
+        return Sort::Quoted;
+    }
+    if is_text_at(scalars, 0, "number") {
+        return Sort::Number;
+    }
+    if is_text_at(scalars, 0, "bigint") {
+        return Sort::BigInt;
+    }
+    if is_text_at(scalars, 0, "null") {
+        return Sort::Null;
+    }
+    if is_text_at(scalars, 0, "regexp") {
+        return Sort::Regex;
+    }
+    if is_truth_at(scalars, 1, true) {
+        return Sort::True;
+    }
+    Sort::False
+}
+
+fn variable_in(scalars: &Scalars) -> Variable
+    ensures { result ≡ spec.variable_in scalars.now }
+{
+    if is_text_at(scalars, 0, "var") {
+        return Variable::Var;
+    }
+    if is_text_at(scalars, 0, "let") {
+        return Variable::Let;
+    }
+    Variable::Const
+}
+
+fn property(tree: &Tree) -> Form
+    ensures { result ≡ spec.property (syntax tree.now) }
+{
+    let scalars = &tree.scalars;
+    let key = key_at(scalars, 3);
+    if is_text_at(scalars, 0, "get") {
+        return Form::PropertyMethod(Access::Get, Flow::Plain, key);
+    }
+    if is_text_at(scalars, 0, "set") {
+        return Form::PropertyMethod(Access::Set, Flow::Plain, key);
+    }
+    if is_truth_at(scalars, 1, true) {
+        return Form::PropertyMethod(Access::Method, value_flow(tree), key);
+    }
+    if is_truth_at(scalars, 2, true) {
+        return Form::ShorthandProperty;
+    }
+    Form::Property(key)
+}
+
+fn method(tree: &Tree) -> Form
+    ensures { result ≡ spec.method (syntax tree.now) }
+{
+    let scalars = &tree.scalars;
+    let standing = standing_at(scalars, 1);
+    let key = key_at(scalars, 2);
+    if is_text_at(scalars, 0, "get") {
+        return Form::Method(Access::Get, standing, Flow::Plain, key);
+    }
+    if is_text_at(scalars, 0, "set") {
+        return Form::Method(Access::Set, standing, Flow::Plain, key);
+    }
+    if is_text_at(scalars, 0, "constructor") {
+        return Form::Method(Access::Constructor, standing, value_flow(tree), key);
+    }
+    Form::Method(Access::Method, standing, value_flow(tree), key)
+}
+
+fn pattern_property(scalars: &Scalars) -> Form
+    ensures { result ≡ spec.pattern_property scalars.now }
+{
+    if is_truth_at(scalars, 0, true) {
+        return Form::PatternShorthand;
+    }
+    Form::PatternProperty(key_at(scalars, 1))
+}
+
+fn member(scalars: &Scalars) -> Form
+    ensures { result ≡ spec.member scalars.now }
+{
+    if is_truth_at(scalars, 0, true) {
+        return Form::Index(link_at(scalars, 1));
+    }
+    Form::Dot(link_at(scalars, 1))
+}
+
+fn meta(scalars: &Scalars) -> Form
+    ensures { result ≡ spec.meta scalars.now }
+{
+    if is_text_at(scalars, 0, "new.target") {
+        return Form::NewTarget;
+    }
+    Form::ImportMeta
+}
+
+fn arrow(scalars: &Scalars) -> Form
+    ensures { result ≡ spec.arrow scalars.now }
+{
+    Form::Arrow(Flow::new(is_truth_at(scalars, 0, true), false))
+}
+
+fn yielding(tree: &Tree) -> Form
+    ensures { result ≡ spec.yielding (syntax tree.now) }
+{
+    if is_truth_at(&tree.scalars, 0, true) {
+        return Form::YieldStar;
+    }
+    match child(tree, 0) {
+        Some(_) => Form::YieldValue,
+        None => Form::Yield,
+    }
+}
+
+// Whether a place takes names that may be any word.
+fn takes_any_name(category: SlotCategory) -> bool
+    ensures { result ≡ spec.takes_any_name category }
+{
+    match category {
+        SlotCategory::Usual(usual) => match usual {
+            Category::AnyName
+            | Category::Member
+            | Category::SuperMember
+            | Category::ObjectKey
+            | Category::ClassKey => true,
+            _ => false,
+        },
+        _ => false,
+    }
+}
+
+fn name(category: SlotCategory) -> Form
+    ensures { result ≡ spec.name category }
+{
+    if takes_any_name(category) {
+        return Form::AnyName;
+    }
+    Form::Name
+}
+
+// A function that runs so, as the value of a method or by itself.
+fn function(category: SlotCategory, flow: Flow) -> Form
+    ensures { result ≡ spec.function category flow }
+{
+    match category {
+        SlotCategory::Usual(usual) => method_value(usual, flow),
+        _ => Form::Function(flow),
+    }
+}
+
+fn method_value(category: Category, flow: Flow) -> Form
+    ensures { result ≡ spec.method_value category flow }
+{
+    match category {
+        Category::Method(wanted) => {
+            if same_flow(wanted, flow) {
+                return Form::MethodValue(flow);
+            }
+            Form::Function(flow)
+        }
+        Category::Getter => accessor(Form::GetterValue, flow),
+        Category::Setter => accessor(Form::SetterValue, flow),
+        _ => Form::Function(flow),
+    }
+}
+
+// The value of an accessor, which is a plain function.
+fn accessor(value: Form, flow: Flow) -> Form
+    ensures { result ≡ spec.accessor value flow }
+{
+    match flow {
+        Flow::Plain => value,
+        _ => Form::Function(flow),
+    }
+}
+
+fn rest(category: SlotCategory) -> Form
+    ensures { result ≡ spec.rest category }
+{
+    match category {
+        SlotCategory::Usual(Category::BindingProperty)
+        | SlotCategory::Assigned(Category::BindingProperty) => Form::NameRest,
+        _ => Form::Rest,
+    }
+}
+
+fn block(category: SlotCategory) -> Form
+    ensures { result ≡ spec.block category }
+{
+    match category {
+        SlotCategory::Usual(Category::FunctionBody) | SlotCategory::ArrowBody => Form::FunctionBody,
+        _ => Form::Block,
+    }
+}
+
+fn variables(category: SlotCategory, variable: Variable) -> Form
+    ensures { result ≡ spec.variables category variable }
+{
+    match category {
+        SlotCategory::ForInit | SlotCategory::ForLeft(_) => Form::HeadVariables(variable),
+        _ => Form::Variables(variable),
+    }
+}
+
+fn case(tree: &Tree) -> Form
+    ensures { result ≡ spec.case (syntax tree.now) }
+{
+    match child(tree, 0) {
+        Some(_) => Form::Case,
+        None => Form::DefaultCase,
+    }
+}
+
+fn for_of(scalars: &Scalars) -> Form
+    ensures { result ≡ spec.for_of scalars.now }
+{
+    if is_truth_at(scalars, 0, true) {
+        return Form::ForAwait;
+    }
+    Form::ForOf
+}
+
+fn import_specifier(scalars: &Scalars) -> Form
+    ensures { result ≡ spec.import_specifier scalars.now }
+{
+    if is_truth_at(scalars, 0, true) {
+        return Form::ImportShorthand;
+    }
+    Form::ImportSpecifier
+}
+
+fn export_specifier(scalars: &Scalars) -> Form
+    ensures { result ≡ spec.export_specifier scalars.now }
+{
+    if is_truth_at(scalars, 0, true) {
+        return Form::ExportShorthand;
+    }
+    Form::ExportSpecifier
+}
+
+fn export_named(tree: &Tree) -> Form
+    ensures { result ≡ spec.export_named (syntax tree.now) }
+{
+    match child(tree, 0) {
+        Some(_) => Form::ExportDeclaration,
+        None => Form::ExportNames,
+    }
+}
+
+fn is_kind(tree: &Tree, one: Kind, other: Kind) -> bool
+    ensures { result ≡ spec.is_either one other (syntax tree.now) }
+{
+    tree.kind == one.number() || tree.kind == other.number()
+}
+
+fn export_default(tree: &Tree) -> Form
+    ensures { result ≡ spec.export_default (syntax tree.now) }
+{
+    match child(tree, 0) {
+        Some(declared) => {
+            if is_kind(declared, Kind::FunctionDeclaration, Kind::ClassDeclaration) {
+                return Form::ExportDefaultDeclaration;
+            }
+            Form::ExportDefault
+        }
+        None => Form::ExportDefault,
+    }
+}
+
+// The form of an expression that has an operator.
+fn operation(kind: Kind, scalars: &Scalars) -> Option<Form>
+    ensures { result ≡ spec.operation kind scalars.now }
+{
+    match kind {
+        Kind::UpdateExpression => {
+            let operator = operator_in(&UPDATES, scalars)?;
+            if is_truth_at(scalars, 1, true) {
+                return Some(Form::Prefix(operator));
+            }
+            Some(Form::Postfix(operator))
+        }
+        Kind::UnaryExpression => Some(Form::Unary(operator_in(&UNARIES, scalars)?)),
+        Kind::BinaryExpression => Some(Form::Binary(operator_in(&BINARIES, scalars)?)),
+        Kind::LogicalExpression => Some(Form::Logical(operator_in(&LOGICALS, scalars)?)),
+        Kind::AssignmentExpression => Some(Form::Assignment(operator_in(&ASSIGNMENTS, scalars)?)),
+        _ => None,
+    }
+}
+
+// The form of an expression, a pattern or a part of one.
+fn expression(kind: Kind, category: SlotCategory, tree: &Tree) -> Option<Form>
+    ensures { result ≡ spec.expression kind category (syntax tree.now) }
+{
+    let scalars = &tree.scalars;
+    match kind {
+        Kind::Identifier => Some(name(category)),
+        Kind::Literal => Some(Form::Literal(sort_in(scalars))),
+        Kind::ThisExpression => Some(Form::This),
+        Kind::Super => Some(Form::Super),
+        Kind::ArrayExpression => Some(Form::Array),
+        Kind::ObjectExpression => Some(Form::Object),
+        Kind::Property => Some(property(tree)),
+        Kind::FunctionExpression => Some(function(category, flow_in(scalars))),
+        Kind::ArrowFunctionExpression => Some(arrow(scalars)),
+        Kind::ClassExpression => Some(Form::Class),
+        Kind::ClassBody => Some(Form::ClassBody),
+        Kind::MethodDefinition => Some(method(tree)),
+        Kind::PropertyDefinition => {
+            Some(Form::Field(standing_at(scalars, 1), key_at(scalars, 0)))
+        }
+        Kind::PrivateIdentifier => Some(Form::PrivateName),
+        Kind::StaticBlock => Some(Form::StaticBlock),
+        Kind::TemplateLiteral => Some(Form::Template),
+        Kind::TemplateElement => Some(Form::TemplateElement),
+        Kind::TaggedTemplateExpression => Some(Form::Tagged),
+        Kind::MemberExpression => Some(member(scalars)),
+        Kind::CallExpression => Some(Form::Call(link_at(scalars, 0))),
+        Kind::NewExpression => Some(Form::New),
+        Kind::ImportExpression => Some(Form::ImportCall),
+        Kind::ChainExpression => Some(Form::Chain),
+        Kind::MetaProperty => Some(meta(scalars)),
+        Kind::AwaitExpression => Some(Form::Await),
+        Kind::ConditionalExpression => Some(Form::Conditional),
+        Kind::YieldExpression => Some(yielding(tree)),
+        Kind::SequenceExpression => Some(Form::Sequence),
+        Kind::SpreadElement => Some(Form::Spread),
+        Kind::ArrayPattern => Some(Form::ArrayPattern),
+        Kind::ObjectPattern => Some(Form::ObjectPattern),
+        Kind::AssignmentProperty => Some(pattern_property(scalars)),
+        Kind::AssignmentPattern => Some(Form::Default),
+        Kind::RestElement => Some(rest(category)),
+        _ => operation(kind, scalars),
+    }
+}
+
+// The form of an import, an export or a part of one.
+fn module_item(kind: Kind, tree: &Tree) -> Option<Form>
+    ensures { result ≡ spec.module_item kind (syntax tree.now) }
+{
+    match kind {
+        Kind::ImportDeclaration => Some(Form::Import),
+        Kind::ImportSpecifier => Some(import_specifier(&tree.scalars)),
+        Kind::ImportDefaultSpecifier => Some(Form::ImportDefault),
+        Kind::ImportNamespaceSpecifier => Some(Form::ImportNamespace),
+        Kind::ExportNamedDeclaration => Some(export_named(tree)),
+        Kind::ExportSpecifier => Some(export_specifier(&tree.scalars)),
+        Kind::ExportDefaultDeclaration => Some(export_default(tree)),
+        Kind::ExportAllDeclaration => Some(Form::ExportAll),
+        _ => None,
+    }
+}
+
+// The form of the kind, by its scalars and children and by what the place takes.
+fn chosen(kind: Kind, category: SlotCategory, tree: &Tree) -> Option<Form>
+    ensures { result ≡ spec.chosen kind category (syntax tree.now) }
+{
+    match kind {
+        Kind::Program => Some(Form::Program),
+        Kind::Directive => Some(Form::Directive),
+        Kind::ExpressionStatement => Some(Form::ExpressionStatement),
+        Kind::BlockStatement => Some(block(category)),
+        Kind::EmptyStatement => Some(Form::Empty),
+        Kind::DebuggerStatement => Some(Form::Debugger),
+        Kind::WithStatement => Some(Form::With),
+        Kind::ReturnStatement => Some(Form::Return),
+        Kind::LabeledStatement => Some(Form::Labeled),
+        Kind::BreakStatement => Some(Form::Break),
+        Kind::ContinueStatement => Some(Form::Continue),
+        Kind::IfStatement => Some(Form::If),
+        Kind::SwitchStatement => Some(Form::Switch),
+        Kind::SwitchCase => Some(case(tree)),
+        Kind::ThrowStatement => Some(Form::Throw),
+        Kind::TryStatement => Some(Form::Try),
+        Kind::CatchClause => Some(Form::Catch),
+        Kind::WhileStatement => Some(Form::While),
+        Kind::DoWhileStatement => Some(Form::DoWhile),
+        Kind::ForStatement => Some(Form::For),
+        Kind::ForInStatement => Some(Form::ForIn),
+        Kind::ForOfStatement => Some(for_of(&tree.scalars)),
+        Kind::VariableDeclaration => Some(variables(category, variable_in(&tree.scalars))),
+        Kind::VariableDeclarator => Some(Form::Declarator),
+        Kind::FunctionDeclaration => Some(Form::FunctionDeclaration(flow_in(&tree.scalars))),
+        Kind::ClassDeclaration => Some(Form::ClassDeclaration),
+        Kind::ImportDeclaration
+        | Kind::ImportSpecifier
+        | Kind::ImportDefaultSpecifier
+        | Kind::ImportNamespaceSpecifier
+        | Kind::ExportNamedDeclaration
+        | Kind::ExportSpecifier
+        | Kind::ExportDefaultDeclaration
+        | Kind::ExportAllDeclaration => module_item(kind, tree),
+        _ => expression(kind, category, tree),
+    }
+}
+
+// Whether a place takes patterns that declare.
+fn declares(category: SlotCategory) -> bool
+    ensures { result ≡ spec.declares category }
+{
+    match category {
+        SlotCategory::Usual(usual) => match usual {
+            Category::Binding
+            | Category::BindingElement
+            | Category::BindingValue
+            | Category::BindingProperty => true,
+            _ => false,
+        },
+        _ => false,
+    }
+}
+
+// The spelling of a pattern or of a part of one.
+fn pattern_spelling(category: SlotCategory) -> u8
+    ensures { result ≡ spec.pattern_spelling category }
+{
+    if declares(category) { 0 } else { 1 }
+}
+
+fn default_spelling(category: SlotCategory) -> u8
+    ensures { result ≡ spec.default_spelling category }
+{
+    match category {
+        SlotCategory::ShortValue => 2,
+        _ => pattern_spelling(category),
+    }
+}
+
+fn template_spelling(category: SlotCategory) -> u8
+    ensures { result ≡ spec.template_spelling category }
+{
+    match category {
+        SlotCategory::Usual(Category::Template) => 0,
+        _ => 19,
+    }
+}
+
+fn head_spelling(category: SlotCategory) -> u8
+    ensures { result ≡ spec.head_spelling category }
+{
+    match category {
+        SlotCategory::ForLeft(_) => 1,
+        _ => 0,
+    }
+}
+
+fn declaration_spelling(category: SlotCategory) -> u8
+    ensures { result ≡ spec.declaration_spelling category }
+{
+    match category {
+        SlotCategory::DefaultDeclaration => 1,
+        _ => 0,
+    }
+}
+
+fn export_spelling(category: SlotCategory) -> u8
+    ensures { result ≡ spec.export_spelling category }
+{
+    match category {
+        SlotCategory::OwnExport => 1,
+        _ => 0,
+    }
+}
+
+// An export of names with a source (0), or without.
+fn names_spelling(tree: &Tree) -> u8
+    ensures { result ≡ spec.names_spelling (syntax tree.now) }
+{
+    match child(tree, 2) {
+        Some(_) => 0,
+        None => 1,
+    }
+}
+
+fn declared_spelling(tree: &Tree) -> u8
+    ensures { result ≡ spec.declared_spelling (syntax tree.now) }
+{
+    match child(tree, 0) {
+        Some(id) => {
+            if is_kind(id, Kind::ArrayPattern, Kind::ObjectPattern) {
+                return 1;
+            }
+            0
+        }
+        None => 0,
+    }
+}
+
+fn declarator_spelling(tree: &Tree) -> u8
+    ensures { result ≡ spec.declarator_spelling (syntax tree.now) }
+{
+    match child(tree, 1) {
+        Some(_) => 2,
+        None => declared_spelling(tree),
+    }
+}
+
+fn spelling(form: Form, category: SlotCategory, tree: &Tree) -> u8
+    ensures { result ≡ spec.spelling form category (syntax tree.now) }
+{
+    match form {
+        Form::ArrayPattern
+        | Form::ObjectPattern
+        | Form::PatternProperty(_)
+        | Form::Rest
+        | Form::NameRest => pattern_spelling(category),
+        Form::Default => default_spelling(category),
+        Form::Template => template_spelling(category),
+        Form::Field(_, _) => 0,
+        Form::Declarator => declarator_spelling(tree),
+        Form::HeadVariables(_) => head_spelling(category),
+        Form::FunctionDeclaration(_) | Form::ClassDeclaration => declaration_spelling(category),
+        Form::ExportNames => names_spelling(tree),
+        Form::ExportSpecifier | Form::ExportShorthand => export_spelling(category),
+        _ => level(form),
+    }
+}
+
+/// The form that made text gives the tree at a place with the slot, `None` where no form of its kind
+/// has its scalars. A place that does not take the tree counts as one for what is assigned to, for a
+/// function by itself, or for a declaration outside heads.
+pub fn form(tree: &Tree, slot: SlotDef) -> Option<Variant>
+    ensures { result ≡ spec.form slot.category (syntax tree.now) }
+{
+    let kind = Kind::from_number(tree.kind)?;
+    let form = chosen(kind, slot.category, tree)?;
+    if has_scalars(form, &tree.scalars) {
+        let spelling = spelling(form, slot.category, tree);
+        return Some(Variant { form, spelling });
+    }
+    None
+}
