@@ -1,1 +1,4 @@
 pub mod InSlots
+pub mod Kids
+pub mod Told
+pub mod Turns

@@ -8,3 +8,5 @@ pub mod Reading
 pub mod Slots
 pub mod Choice
 pub mod Edges
+pub mod Children
+pub mod Seats

@@ -1,0 +1,8 @@
+use Rattle.std.proofs.Common.{◌≡◌, ◌++◌, ◌+◌, drop, map, ap, sym, append_assoc, ◌∙◌}
+use Rattle.tree_forms.specs.Children.{kid_view, first_of, turns}
+use Rattle.tree_forms.proofs.Turns.{turns_step, regrouped}
+use Rattle.tree_forms.proofs.children.turns.Goals as goal
+
+pub loop-at-preserved : goal.loop-at-preserved
+loop-at-preserved c =
+    regrouped _ _ _ _ _ _ _ _ c.in_ok-add_at.ensures c.in_ok-add_at-2.ensures (turns_step c.args.characters.now c.args.holes.now c.loop-at.at) c.loop-at.invariant
