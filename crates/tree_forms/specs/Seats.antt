@@ -5,7 +5,8 @@
 use Rattle.std.specs.Prelude.{ℕ, zero, suc, ◌==◌, Bool, true, false, not, ◌&&◌, ◌||◌, if◌then◌else◌, List, [], ◌∷◌, ◌++◌, map, length, Option, Some, None, min}
 use Rattle.tree_core.specs.declared.comment.Comment.{Comment}
 use Rattle.tree_core.specs.Height.{height}
-use Rattle.tree_core.specs.Syntax.{Syntax, node, Notes}
+use Rattle.tree_core.specs.Notes.{Notes}
+use Rattle.tree_core.specs.Syntax.{Syntax, node}
 use Rattle.js_forms.specs.declared.category.Category.TheVariants as c
 use Rattle.js_forms.specs.declared.form.Form.{Form}
 use Rattle.js_forms.specs.declared.form.Form.TheVariants as f

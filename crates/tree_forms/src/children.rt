@@ -66,7 +66,7 @@ fn add_place<'a>(
     match &place.node {
         None => Ok(()),
         Some(node) => Ok(found.push(Child {
-            node: node.get(),
+            node,
             number,
             category,
         })?),

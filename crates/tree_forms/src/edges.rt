@@ -8,7 +8,7 @@ use crate::choosing::form;
 use crate::slot_def::{Change, SlotCategory, SlotDef, Variant};
 use crate::slots::slot;
 use js_forms::{Access, Category, Flow, Form, Key, Link, Scope, Standing};
-use tree_core::{Comments, Place, Slot, Tree};
+use tree_core::{Comment, Place, Slot, Tree};
 use type_defs::is_a;
 
 /// The slot of an expression that may be any.
@@ -195,16 +195,16 @@ fn rises(variant: Variant, below: Option<Edge>) -> bool
     }
 }
 
-fn has_any(comments: &Comments) -> bool
+fn has_any(comments: &[Comment]) -> bool
     ensures { result ≡ spec.has_any comments.now }
 {
-    !comments.as_slice().is_empty()
+    !comments.is_empty()
 }
 
 fn over(variant: Option<Variant>, tree: &Tree, below: Option<Edge>) -> Edge
-    ensures { result ≡ spec.edge_over variant tree.now.kind tree.now.lead below }
+    ensures { result ≡ spec.edge_over variant tree.now.kind tree.now.notes.lead below }
 {
-    let noted = has_any(&tree.lead);
+    let noted = has_any(tree.notes.lead());
     match variant {
         Some(variant) => {
             let chained = is_chained(variant.form, below);
@@ -269,7 +269,7 @@ fn place_edge(place: &Place) -> Option<Edge>
 {
     match &place.node {
         None => None,
-        Some(node) => Some(left_end(node.get())),
+        Some(node) => Some(left_end(node)),
     }
 }
 

@@ -101,6 +101,6 @@ fn in_place(place: &Place) -> Option<&Tree>
 {
     match &place.node {
         None => None,
-        Some(node) => Some(node.get()),
+        Some(node) => Some(node),
     }
 }

@@ -348,7 +348,7 @@ fn add_inner(
     ensures { OnOk result (found.new ≡ found.old ++ spec.inside variant (syntax tree.now) (spec.gap_view end.entry)) }
 {
     if has_inner(variant, tree) {
-        add_comments(alloc, found, tree.inner.as_slice(), end)?;
+        add_comments(alloc, found, tree.notes.inner(), end)?;
     }
     Ok(())
 }
@@ -403,12 +403,12 @@ fn add_child(
 {
     let tree = child.node;
     if has_leads(node.variant, turn, tree) {
-        add_comments(alloc, found, tree.lead.as_slice(), beside.before)?;
+        add_comments(alloc, found, tree.notes.lead(), beside.before)?;
     }
     let steps = below(alloc, node.steps, child.number)?;
     add_tree(alloc, found, depth, child.category, &steps, beside, tree)?;
     if has_trails(node.variant, turn, tree) {
-        add_comments(alloc, found, tree.trail.as_slice(), beside.behind)?;
+        add_comments(alloc, found, tree.notes.trail(), beside.behind)?;
     }
     Ok(())
 }

@@ -4,7 +4,7 @@ use crate::{Change, SlotCategory, SlotDef, Variant, form, level, seats, slot};
 use js_forms::{Category, Form, Link, Scope};
 use sqlite_items::Items;
 use std::alloc::{AllocError, Global};
-use tree_core::{Comment, Comments, Place, Scalar, Scalars, Slot, Tree, Units};
+use tree_core::{Comment, Comments, Notes, Place, Scalar, Scalars, Slot, Tree, Units};
 use type_defs::Kind;
 
 const BINDING: SlotDef = SlotDef {
@@ -25,19 +25,18 @@ fn note(alloc: Global) -> Result<Comments, AllocError> {
 // `this`, with a comment before it.
 fn this(alloc: Global) -> Result<Slot, AllocError> {
     let mut tree = Tree::new(
-        alloc,
         Kind::ThisExpression.number(),
         Scalars::new(),
         Items::new(alloc),
     );
-    tree.lead = note(alloc)?;
+    tree.notes = Notes::new(alloc, note(alloc)?, Items::new(alloc), Items::new(alloc))?;
     Ok(Slot::single(Place::filled(alloc, tree)?))
 }
 
 fn over(alloc: Global, kind: Kind, scalars: Scalars, child: Slot) -> Result<Tree, AllocError> {
     let mut slots = Items::new(alloc);
     slots.push(child)?;
-    Ok(Tree::new(alloc, kind.number(), scalars, slots))
+    Ok(Tree::new(kind.number(), scalars, slots))
 }
 
 #[test]
