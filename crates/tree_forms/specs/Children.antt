@@ -1,7 +1,7 @@
 -- The children of a node in the order of the text, each with what its slot takes (ESTree). Slots stand
 -- in that order, but for a template's characters and expressions, which take turns. A name that is
 -- spelled once for two children has a mirror, which stands nowhere.
-use Rattle.std.specs.Prelude.{ℕ, zero, suc, ◌+◌, ◌==◌, Bool, true, false, if◌then◌else◌, List, [], ◌∷◌, ◌++◌, Option, Some, None, min, take, drop}
+use Rattle.std.specs.Prelude.{ℕ, ◌+◌, ◌==◌, Bool, true, false, if◌then◌else◌, List, [], ◌∷◌, ◌++◌, Option, Some, None, min, take, drop}
 use Rattle.tree_core.specs.Syntax.{Syntax, node, Slots, no_slots, slot, Places, no_places, hole, place}
 use Rattle.tree_core.specs.View.{syntax}
 use Rattle.js_forms.specs.declared.category.Category.TheVariants as c

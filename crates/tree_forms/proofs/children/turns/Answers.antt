@@ -1,5 +1,3 @@
-use Rattle.std.proofs.Common.{◌≡◌, ◌++◌, ◌+◌, drop, map, ap, sym, append_assoc, ◌∙◌}
-use Rattle.tree_forms.specs.Children.{kid_view, first_of, turns}
 use Rattle.tree_forms.proofs.Turns.{turns_step, regrouped}
 use Rattle.tree_forms.proofs.children.turns.Goals as goal
 

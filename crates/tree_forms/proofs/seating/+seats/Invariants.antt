@@ -1,4 +1,4 @@
-use Rattle.std.proofs.Common.{◌≡◌, ◌+◌, ◌-◌, ◌*◌, ◌++◌, [], drop, map}
+use Rattle.std.proofs.Common.{◌≡◌, ◌+◌, ◌-◌, ◌*◌, ◌++◌, drop, map}
 use Rattle.tree_forms.specs.Children.{kid_view}
 use Rattle.tree_forms.specs.Seats.{seats_in, of_kids, end_of, gap_view, sides_view}
 use Rattle.tree_forms.proofs.seating.+seats.Given as goal
