@@ -13,7 +13,7 @@ all_last kept (y ∷ xs) x = all_last (insert_key nat_eq kept y) xs x
 pub added_one : (kept new old xs more : List ℕ) (x : ℕ) → kept ≡ insert_all nat_eq old xs → new ≡ insert_key nat_eq kept x → more ≡ xs ++ x ∷ [] → new ≡ insert_all nat_eq old more
 added_one kept new old xs more x k n m = n ∙ (ap (λ z. insert_key nat_eq z x) k ∙ (sym (all_last old xs x) ∙ ap (insert_all nat_eq old) (sym m)))
 
-all_more : (kept xs ys : List ℕ) → insert_all nat_eq kept (xs ++ ys) ≡ insert_all nat_eq (insert_all nat_eq kept xs) ys
+pub all_more : (kept xs ys : List ℕ) → insert_all nat_eq kept (xs ++ ys) ≡ insert_all nat_eq (insert_all nat_eq kept xs) ys
 all_more kept [] ys = refl
 all_more kept (x ∷ xs) ys = all_more (insert_key nat_eq kept x) xs ys
 

@@ -1,5 +1,6 @@
 pub mod Waits
 pub mod Picked
 pub mod Inserted
+pub mod Climbs
 pub mod Kept
 pub mod Making

@@ -1,6 +1,9 @@
 //! What stands above paths.
 
-ghost use Rattle.std.specs.Prelude.{◌≡◌, ◌<◌, ◌≤◌, length, All, IfOk, IfSome};
+ghost use Rattle.std.specs.Prelude.{◌≡◌, ◌<◌, ◌≤◌, length, All, Err, IfOk, IfSome};
+ghost use Rattle.collections.specs.Above.{nearest, nearest_all};
+ghost use Rattle.collections.specs.Below.{is_of};
+ghost use Rattle.collections.specs.Found.{alone};
 
 use crate::below::is_of;
 use crate::distinct::add_all;
@@ -8,50 +11,85 @@ use crate::fault::ListFault;
 use crate::list::{MOST_ITEMS, Paths};
 use crate::matching::matches;
 use crate::pattern::Pattern;
+use ast_paths::parent;
 use indexmap::IndexSet;
 use node_arena::{Arena, PlaceId};
 use sqlite_items::Items;
-use std::alloc::Global;
+use std::alloc::{AllocError, Global};
 
-/// The place where the owner of a place stands.
-fn parent(arena: &Arena, place: PlaceId) -> Option<PlaceId>
-    requires { place < length arena.now.forest.places }
-    ensures { IfSome result (λ p. p < length arena.now.forest.places) }
-{
-    match arena.owner(place) {
-        None => None,
-        Some(owner) => arena.place_of(owner),
-    }
-}
-
+/// Whether a matching node of the kind or group stands in the place.
 fn fits(arena: &Arena, place: PlaceId, kind: u8, pattern: &Pattern) -> bool
     requires { place < length arena.now.forest.places }
+    ensures any { pattern.now ≡ Pattern.Any → result ≡ is_of arena.now.forest kind place }
 {
     match arena.node_at(place) {
         None => false,
-        Some(node) => is_of(arena, place, kind) && matches(arena, node, pattern),
+        Some(node) => matches(arena, node, pattern) && is_of(arena, place, kind),
     }
 }
 
 /// The nearest place above a path where a matching node of the kind or group stands.
+#[tactic(auto, using(crate::proofs::Climbs::climb_none, crate::proofs::Climbs::climb_top, crate::proofs::Climbs::climb_here, crate::proofs::Climbs::climb_on))]
 fn nearest(arena: &Arena, path: PlaceId, kind: u8, pattern: &Pattern) -> Option<PlaceId>
     requires { path < length arena.now.forest.places }
-    ensures { IfSome result (λ p. p < length arena.now.forest.places) }
+    ensures within { IfSome result (λ p. p < length arena.now.forest.places) }
+    ensures any { pattern.now ≡ Pattern.Any → result ≡ nearest arena.now.forest kind path }
 {
     let mut at = path;
     for _turn in 0..arena.nodes() {
-        match parent(arena, at) {
-            None => return None,
-            Some(above) => at = above,
+        let Some(above) = parent(arena, at) else {
+            return None;
+        };
+        if fits(arena, above, kind, pattern) {
+            return Some(above);
         }
-        if fits(arena, at, kind, pattern) {
-            return Some(at);
-        }
+        at = above;
     }
     None
 }
 
-#[tactic(auto, using(crate::proofs::Inserted::all_added))]
+/// That place alone, or no place.
+#[tactic(auto, using(crate::proofs::Climbs::alone_none, crate::proofs::Climbs::alone_some))]
+fn nearest_path(
+    alloc: Global,
+    arena: &Arena,
+    path: PlaceId,
+    kind: u8,
+    pattern: &Pattern,
+) -> Result<Vec<PlaceId>, AllocError>
+    requires { path < length arena.now.forest.places }
+    ensures any { pattern.now ≡ Pattern.Any → IfOk result (λ v. v.items ≡ alone (nearest arena.now.forest kind path)) }
+    ensures within { IfOk result (λ v. All (λ p. p < length arena.now.forest.places) v.items) }
+{
+    let mut found = Vec::new(alloc);
+    let Some(above) = nearest(arena, path, kind, pattern) else {
+        return Ok(found);
+    };
+    found.push(above)?;
+    Ok(found)
+}
+
+/// Those of all paths, each once.
+fn nearest_paths(
+    alloc: Global,
+    arena: &Arena,
+    paths: &[PlaceId],
+    kind: u8,
+    pattern: &Pattern,
+) -> Result<Vec<PlaceId>, AllocError>
+    requires { All (λ p. p < length arena.now.forest.places) paths.now }
+    ensures any { pattern.now ≡ Pattern.Any → IfOk result (λ v. v.items ≡ nearest_all arena.now.forest kind paths.now) }
+    ensures within { IfOk result (λ v. All (λ p. p < length arena.now.forest.places) v.items) }
+{
+    let mut seen = IndexSet::new(alloc);
+    let mut kept = Vec::new(alloc);
+    for path in paths.iter().copied() {
+        let above = nearest_path(alloc, arena, path, kind, pattern)?;
+        add_all(&mut seen, &mut kept, &above)?;
+    }
+    Ok(kept)
+}
+
 /// For each path the place of the nearest matching ancestor of the kind or group; a place that was
 /// found before is left out. A detached root is no ancestor.
 pub fn closest(
@@ -63,17 +101,13 @@ pub fn closest(
 ) -> Result<Paths, ListFault>
     requires { All (λ p. p < length arena.now.forest.places) paths.now }
     ensures within { IfOk result (λ v. All (λ p. p < length arena.now.forest.places) v) }
+    ensures any { pattern.now ≡ Pattern.Any → IfOk result (λ v. v ≡ nearest_all arena.now.forest kind paths.now) }
     ensures few { IfOk result (λ v. length v ≤ 1000000) }
+    ensures long { pattern.now ≡ Pattern.Any → result ≡ Err ListFault.ListLong → 1000000 < length (nearest_all arena.now.forest kind paths.now) }
 {
-    let mut seen = IndexSet::new(alloc);
-    let mut kept = Vec::new(alloc);
-    for path in paths.as_slice().iter().copied() {
-        if let Some(above) = nearest(arena, path, kind, pattern) {
-            add_all(&mut seen, &mut kept, &[above])?;
-        }
-    }
-    if kept.len() > MOST_ITEMS {
+    let found = nearest_paths(alloc, arena, paths.as_slice(), kind, pattern)?;
+    if found.len() > MOST_ITEMS {
         return Err(ListFault::ListLong);
     }
-    Ok(Items::from_vec(kept))
+    Ok(Items::from_vec(found))
 }
