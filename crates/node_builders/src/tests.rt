@@ -9,5 +9,7 @@ fn refuses(rt: HostRuntime) {
     let mut arena = Arena::new(alloc).expect(&rt, "an arena");
     let few = build(alloc, &mut arena, 25, &[BuildArg::Null, BuildArg::Null]);
     assert!(rt; few == Err(BuildFault::TooFew));
+    let negative = build(alloc, &mut arena, 2, &[BuildArg::Whole(-1)]);
+    assert!(rt; negative == Err(BuildFault::BuilderType { field: 1 }));
     assert!(rt; arena.nodes() == 0);
 }

@@ -1,0 +1,4 @@
+function sum(a, b) {
+  total = a + b;
+  list.push(total);
+}
