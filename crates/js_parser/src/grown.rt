@@ -8,7 +8,6 @@ use sqlite_items::Items;
 use std::alloc::{AllocError, Global};
 use std::mem;
 use tree_core::{Place, Scalar, Scalars, Slot, Tree, Units};
-use type_defs::slot_count;
 
 /// What is kept of trees.
 #[derive(Clone, Copy)]
@@ -156,7 +155,8 @@ pub struct Parts {
 impl Parts {
     /// Nothing yet but what the form determines.
     pub fn new(alloc: Global, form: Form) -> Result<Parts, AllocError> {
-        let count = slot_count(form.kind().number());
+        let fields = form.kind().fields();
+        let count = fields.iter().filter(|field| field.slot).count();
         Ok(Parts {
             scalars: scalars(alloc, form)?,
             slots: Items::from_vec(Vec::with_capacity(alloc, count)?),

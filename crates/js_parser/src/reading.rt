@@ -2,8 +2,6 @@
 
 ghost use Rattle.std.specs.Prelude.{◌≡◌, ◌≤◌, length, true, IfErr, IfOk};
 ghost use Rattle.js_lexer.specs.Cursors.{is_done};
-ghost use Rattle.tree_core.specs.Height.{height};
-ghost use Rattle.tree_core.specs.View.{syntax};
 ghost use Rattle.js_parser.specs.Callable.{Callable};
 ghost use Rattle.js_parser.specs.Refusals.{BrokenAt, RefusedBroken, RefusedWithin};
 
@@ -17,7 +15,7 @@ use js_lexer::{Cursor, Refusal, SyntaxFault, SyntaxKind, next};
 use js_tokens::{Goal, TokenKind};
 use sqlite_items::Items;
 use std::alloc::Global;
-use tree_core::{Scalar, Tree, height};
+use tree_core::{Scalar, Tree};
 
 /// How deep nodes and grouping parentheses nest at most.
 pub const MOST_LEVELS: u32 = 1000;
@@ -117,9 +115,10 @@ fn stated(source: &Source, refusal: Refusal) -> Refusal
 
 /// The tree of the text from the offset on, with the first line's text as its interpreter.
 ///
-/// That the cursor is one over this text and at its end, how high the tree is, and that the lexer
-/// finds a broken element where the cursor met one, hold by the way it is read. No clause of the
-/// rules carries that up to here, so it is looked at once more.
+/// That the cursor is one over this text and at its end, and that the lexer finds a broken element
+/// where the cursor met one, hold by the way it is read. No clause of the rules carries that up to
+/// here, so it is looked at once more. How high the tree is, is looked at where it is numbered, since
+/// that walk goes over the whole tree anyhow.
 pub fn program(
     alloc: Global,
     source: &Source,
@@ -130,7 +129,6 @@ pub fn program(
     ensures broken { IfErr result (RefusedBroken source.now) }
     ensures text { IfOk result (λ read. length read.cursor.text ≡ length source.now) }
     ensures whole { IfOk result (λ read. is_done read.cursor ≡ true) }
-    ensures low { IfOk result (λ read. height (syntax read.tree) ≤ 1000) }
 {
     let at = source.bytes().len() as u32;
     match read_from(alloc, source, from, interpreter) {
@@ -139,10 +137,6 @@ pub fn program(
             let fits = read.cursor.source().bytes().len() == source.bytes().len();
             if !fits || !read.cursor.is_done() {
                 let kind = SyntaxKind::Unexpected;
-                return Err(Refusal::Syntax(SyntaxFault { at, kind }));
-            }
-            if height(&read.tree) > MOST_LEVELS {
-                let kind = SyntaxKind::Nesting;
                 return Err(Refusal::Syntax(SyntaxFault { at, kind }));
             }
             Ok(read)

@@ -52,13 +52,7 @@ fn head_seat(word: Word, is_await: bool) -> Seat
     ensures { result ≡ spec.head_seat word is_await }
 {
     match word {
-        Word::Async => {
-            if is_await {
-                Seat::Free
-            } else {
-                Seat::Head
-            }
-        }
+        Word::Async => { if is_await { Seat::Free } else { Seat::Head } }
         _ => Seat::Free,
     }
 }

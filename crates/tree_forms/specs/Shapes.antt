@@ -323,13 +323,13 @@ abbrev pub text_of : Syntax → List ℕ
 text_of (node kind scalars slots notes from) = first_text scalars
 
 -- the child by which a form goes on: a string where directives stand would be one; the name `async`
--- stands before no `of`
+-- stands before no `of` but that of `for await` (ECMA-262, clause 14.7.5)
 abbrev pub takes_operand : Form → Context → Shape → Syntax → Bool
 takes_operand f.ExpressionStatement k x tree = level_at 0 x && not (k.directives && is_string x.form && not x.grouped)
 takes_operand f.Chain k x tree = link_at 17 x && x.chained
 takes_operand f.ForIn k x tree = aims c.Binding x
 takes_operand f.ForOf k x tree = aims c.Binding x && not (is_name_form x.form && not x.grouped && bytes_eq (text_of tree) (codes "async"))
-takes_operand f.ForAwait k x tree = aims c.Binding x && not (is_name_form x.form && not x.grouped && bytes_eq (text_of tree) (codes "async"))
+takes_operand f.ForAwait k x tree = aims c.Binding x
 takes_operand form k x tree = takes_left (first_child form) form x
 
 -- the place takes the tree in this shape
