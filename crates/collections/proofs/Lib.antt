@@ -1,3 +1,4 @@
+pub mod Readings
 pub mod Waits
 pub mod Picked
 pub mod Inserted

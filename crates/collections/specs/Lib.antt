@@ -1,4 +1,5 @@
 pub mod Values
+pub mod Reads
 pub mod Below
 pub mod Found
 pub mod Above
