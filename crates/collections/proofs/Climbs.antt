@@ -1,5 +1,5 @@
 -- The climb to the nearest place above, and the places that are found by it.
-use Rattle.std.proofs.Common.{◌≡◌, ℕ, zero, suc, ◌+◌, ◌-◌, ◌<◌, ◌≤◌, Bool, true, false, cond, List, [], ◌∷◌, ◌++◌, length, Option, Some, None, nat_eq, refl, sym, ap, ◌∙◌, append_assoc, append-nil, arith}
+use Rattle.std.proofs.Common.{◌≡◌, ℕ, suc, ◌+◌, ◌-◌, ◌<◌, ◌≤◌, true, false, cond, List, [], ◌∷◌, ◌++◌, Option, Some, None, nat_eq, refl, sym, ap, ◌∙◌, append_assoc, append-nil, arith}
 use Rattle.indexmap.specs.IndexSet.{insert_all}
 use Rattle.node_arena.specs.Forest.{Forest}
 use Rattle.ast_paths.specs.Paths.{parent_at}

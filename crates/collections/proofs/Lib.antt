@@ -1,4 +1,5 @@
 pub mod Readings
+pub mod Trying
 pub mod Waits
 pub mod Picked
 pub mod Inserted

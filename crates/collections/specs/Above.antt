@@ -1,5 +1,5 @@
 -- The nearest places above places.
-use Rattle.std.specs.Prelude.{ℕ, zero, suc, Bool, List, [], ◌∷◌, ◌++◌, length, nat_eq, if◌then◌else◌, Option, Some, None}
+use Rattle.std.specs.Prelude.{ℕ, zero, suc, List, [], ◌∷◌, ◌++◌, length, nat_eq, if◌then◌else◌, Option, Some, None}
 use Rattle.indexmap.specs.IndexSet.{insert_all}
 use Rattle.node_arena.specs.Forest.{Forest}
 use Rattle.ast_paths.specs.Paths.{parent_at}

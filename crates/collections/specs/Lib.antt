@@ -1,5 +1,6 @@
 pub mod Values
 pub mod Reads
+pub mod Matches
 pub mod Below
 pub mod Found
 pub mod Above

@@ -1,5 +1,5 @@
 -- What a field of a node reads as.
-use Rattle.std.specs.Prelude.{ℕ, ◌+◌, ◌-◌, ◌*◌, ◌^◌, ℤ, pos, min, nat_lt, Bool, true, false, not, List, [], ◌∷◌, length, take, Option, Some, None, slice_get, codes, ◌==◌, ◌&&◌, if◌then◌else◌}
+use Rattle.std.specs.Prelude.{ℕ, ◌+◌, ◌-◌, ◌*◌, ◌^◌, ℤ, pos, min, nat_lt, Bool, false, not, List, [], ◌∷◌, length, take, Option, Some, None, slice_get, codes, ◌==◌, ◌&&◌, if◌then◌else◌}
 use Rattle.std.specs.Str.{bytes_eq}
 use Rattle.tree_core.specs.declared.scalars.Scalar.{Scalar}
 use Rattle.tree_core.specs.declared.scalars.Scalar.TheVariants as scalars

@@ -1,7 +1,11 @@
 //! Whether a node matches a pattern, and how many nodes are visited to tell it.
 
-ghost use Rattle.std.specs.Prelude.{◌≡◌, ◌<◌, length, true};
+ghost use Rattle.std.specs.Prelude.{◌≡◌, ◌<◌, ◌+◌, ◌-◌, ◌^◌, length, map, min, true, Some};
+ghost use Rattle.node_arena.specs.Store.{Store};
 ghost use Rattle.collections.specs.Values.{ReadIn};
+ghost use Rattle.collections.specs.Reads.{seen, list, object, name_read};
+ghost use Rattle.type_defs.specs.Kinds.{kind_at};
+ghost use Rattle.collections.specs.Matches.{is_text, is_whole, is_truth, is_null, has_places, fit_object, fields_told, below_told, items_told, list_told, tried, field_tried, matches_at, visits_at};
 
 use crate::pattern::{FieldPattern, Pattern};
 use crate::reading::{Read, item, read_field, spells};
@@ -24,7 +28,9 @@ fn told(fits: bool) -> Trial
 }
 
 /// Whether the text is the name of the kind of this number.
-fn is_name(text: &[u16], kind: u8) -> bool {
+fn is_name(text: &[u16], kind: u8) -> bool
+    ensures { result ≡ is_text text.now (name_read (kind_at kind)) }
+{
     match Kind::from_number(kind) {
         None => false,
         Some(kind) => spells(text, kind.name()),
@@ -33,10 +39,11 @@ fn is_name(text: &[u16], kind: u8) -> bool {
 
 fn is_text(arena: &Arena, value: &Read<'_>, text: &[u16]) -> bool
     requires { ReadIn arena.now.forest value.now }
+    ensures { result ≡ is_text text.now (seen value.now) }
 {
     let _made = arena.nodes();
     match value {
-        Read::Text(units) => *units == text,
+        Read::Text(units) => text == *units,
         Read::Named(kind) => is_name(text, *kind),
         _ => false,
     }
@@ -44,6 +51,7 @@ fn is_text(arena: &Arena, value: &Read<'_>, text: &[u16]) -> bool
 
 fn is_whole(arena: &Arena, value: &Read<'_>, number: i64) -> bool
     requires { ReadIn arena.now.forest value.now }
+    ensures { result ≡ is_whole number (seen value.now) }
 {
     let _made = arena.nodes();
     match value {
@@ -54,6 +62,7 @@ fn is_whole(arena: &Arena, value: &Read<'_>, number: i64) -> bool
 
 fn is_truth(arena: &Arena, value: &Read<'_>, truth: bool) -> bool
     requires { ReadIn arena.now.forest value.now }
+    ensures { result ≡ is_truth truth (seen value.now) }
 {
     let _made = arena.nodes();
     match value {
@@ -64,6 +73,7 @@ fn is_truth(arena: &Arena, value: &Read<'_>, truth: bool) -> bool
 
 fn is_null(arena: &Arena, value: &Read<'_>) -> bool
     requires { ReadIn arena.now.forest value.now }
+    ensures { result ≡ is_null (seen value.now) }
 {
     let _made = arena.nodes();
     match value {
@@ -73,8 +83,10 @@ fn is_null(arena: &Arena, value: &Read<'_>) -> bool
 }
 
 /// Whether the list from a place on has so many places.
+#[tactic(auto, using(crate::proofs::Trying::long_none, crate::proofs::Trying::long_some, crate::proofs::Trying::long_end))]
 fn is_long(arena: &Arena, first: PlaceId, count: usize) -> bool
     requires { first < length arena.now.forest.places }
+    ensures { result ≡ has_places arena.now.forest count (Some first) }
 {
     let mut at = Some(first);
     for _item in 0..count {
@@ -88,7 +100,8 @@ fn is_long(arena: &Arena, first: PlaceId, count: usize) -> bool
 
 /// Whether anything fits the pattern.
 pub fn is_any(pattern: &Pattern) -> bool
-    ensures { pattern.now ≡ Pattern.Any → result ≡ true }
+    ensures any { pattern.now ≡ Pattern.Any → result ≡ true }
+    ensures object { (A : Store) → result ≡ (tried pattern.now A object).fits }
 {
     match pattern {
         Pattern::Any => true,
@@ -97,7 +110,9 @@ pub fn is_any(pattern: &Pattern) -> bool
 }
 
 /// Whether each pattern is `Any`, which alone fits a comment.
-fn are_any(patterns: &[Pattern]) -> bool {
+fn are_any(patterns: &[Pattern]) -> bool
+    ensures { (A : Store) → result ≡ fit_object (map tried patterns.now) A }
+{
     for pattern in patterns {
         if !is_any(pattern) {
             return false;
@@ -109,6 +124,8 @@ fn are_any(patterns: &[Pattern]) -> bool {
 #[cycle(matching)]
 fn try_fields(arena: &Arena, node: NodeId, fields: &[FieldPattern]) -> Trial
     requires { node < length arena.now.forest.nodes }
+    ensures fits { result.fits ≡ (fields_told (map field_tried fields.now) arena.now node).fits }
+    ensures visits { result.visits ≡ min (fields_told (map field_tried fields.now) arena.now node).visits (2 ^ 64 - 1) }
 {
     let mut visits = 0u64;
     for field in fields {
@@ -128,6 +145,8 @@ fn try_fields(arena: &Arena, node: NodeId, fields: &[FieldPattern]) -> Trial
 #[cycle(matching)]
 fn try_items(arena: &Arena, first: PlaceId, patterns: &[Pattern]) -> Trial
     requires { first < length arena.now.forest.places }
+    ensures fits { result.fits ≡ (list_told (map tried patterns.now) arena.now (list (Some first))).fits }
+    ensures visits { result.visits ≡ min (list_told (map tried patterns.now) arena.now (list (Some first))).visits (2 ^ 64 - 1) }
 {
     if !is_long(arena, first, patterns.len()) {
         return told(false);
@@ -136,7 +155,10 @@ fn try_items(arena: &Arena, first: PlaceId, patterns: &[Pattern]) -> Trial
     let mut at = Some(first);
     for pattern in patterns {
         let Some(place) = at else {
-            return told(false);
+            return Trial {
+                fits: false,
+                visits,
+            };
         };
         let value = item(arena, place);
         let trial = try_value(arena, &value, pattern);
@@ -156,6 +178,8 @@ fn try_items(arena: &Arena, first: PlaceId, patterns: &[Pattern]) -> Trial
 #[cycle(matching)]
 fn try_below(arena: &Arena, value: &Read<'_>, fields: &[FieldPattern]) -> Trial
     requires { ReadIn arena.now.forest value.now }
+    ensures fits { result.fits ≡ (below_told (map field_tried fields.now) arena.now (seen value.now)).fits }
+    ensures visits { result.visits ≡ min (below_told (map field_tried fields.now) arena.now (seen value.now)).visits (2 ^ 64 - 1) }
 {
     match value {
         Read::Node(node) => {
@@ -172,6 +196,8 @@ fn try_below(arena: &Arena, value: &Read<'_>, fields: &[FieldPattern]) -> Trial
 #[cycle(matching)]
 fn try_list(arena: &Arena, value: &Read<'_>, patterns: &[Pattern]) -> Trial
     requires { ReadIn arena.now.forest value.now }
+    ensures fits { result.fits ≡ (list_told (map tried patterns.now) arena.now (seen value.now)).fits }
+    ensures visits { result.visits ≡ min (list_told (map tried patterns.now) arena.now (seen value.now)).visits (2 ^ 64 - 1) }
 {
     match value {
         Read::Empty => told(patterns.is_empty()),
@@ -184,6 +210,8 @@ fn try_list(arena: &Arena, value: &Read<'_>, patterns: &[Pattern]) -> Trial
 #[cycle(matching)]
 fn try_value(arena: &Arena, value: &Read<'_>, pattern: &Pattern) -> Trial
     requires { ReadIn arena.now.forest value.now }
+    ensures fits { result.fits ≡ (tried pattern.now arena.now (seen value.now)).fits }
+    ensures visits { result.visits ≡ min (tried pattern.now arena.now (seen value.now)).visits (2 ^ 64 - 1) }
 {
     match pattern {
         Pattern::Any => told(true),
@@ -198,7 +226,9 @@ fn try_value(arena: &Arena, value: &Read<'_>, pattern: &Pattern) -> Trial
 
 fn try_node(arena: &Arena, node: NodeId, pattern: &Pattern) -> Trial
     requires { node < length arena.now.forest.nodes }
-    ensures { pattern.now ≡ Pattern.Any → result.fits ≡ true }
+    ensures any { pattern.now ≡ Pattern.Any → result.fits ≡ true }
+    ensures fits { result.fits ≡ matches_at arena.now node pattern.now }
+    ensures visits { result.visits ≡ min (visits_at arena.now node pattern.now) (2 ^ 64 - 1) }
 {
     match pattern {
         Pattern::Any => told(true),
@@ -212,7 +242,8 @@ fn try_node(arena: &Arena, node: NodeId, pattern: &Pattern) -> Trial
 /// item a list that is at least as long. It takes no memory.
 pub fn matches(arena: &Arena, node: NodeId, pattern: &Pattern) -> bool
     requires { node < length arena.now.forest.nodes }
-    ensures { pattern.now ≡ Pattern.Any → result ≡ true }
+    ensures any { pattern.now ≡ Pattern.Any → result ≡ true }
+    ensures fits { result ≡ matches_at arena.now node pattern.now }
 {
     try_node(arena, node, pattern).fits
 }
@@ -222,6 +253,7 @@ pub fn matches(arena: &Arena, node: NodeId, pattern: &Pattern) -> bool
 /// are more. It takes no memory.
 pub fn reached(arena: &Arena, node: NodeId, pattern: &Pattern) -> u64
     requires { node < length arena.now.forest.nodes }
+    ensures { result ≡ min (visits_at arena.now node pattern.now) (2 ^ 64 - 1) }
 {
     try_node(arena, node, pattern).visits
 }

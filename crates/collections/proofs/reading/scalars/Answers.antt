@@ -1,5 +1,5 @@
-use Rattle.std.proofs.Common.{◌≡◌, ◌∙◌, ap, map, take}
-use Rattle.type_defs.specs.Fields.{row_of, fields_at, scalar_count}
+use Rattle.std.proofs.Common.{◌∙◌, ap, take}
+use Rattle.type_defs.specs.Fields.{row_of, fields_at}
 use Rattle.collections.proofs.Readings.{map_take}
 use Rattle.collections.proofs.reading.scalars.Goals as goal
 
