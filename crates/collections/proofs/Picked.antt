@@ -1,5 +1,6 @@
 -- Lists with some places left out.
-use Rattle.std.proofs.Common.{◌≡◌, ℕ, ◌<◌, ◌≤◌, List, [], ◌∷◌, ◌++◌, length, sym, subst, arith}
+use Rattle.std.proofs.Common.{◌≡◌, ℕ, Bool, true, false, cond, List, [], ◌∷◌, ◌++◌, filter, sym, ap, ◌∙◌, append-nil, subst}
+use Rattle.std.proofs.lemmas.List.Elements.{filter-append}
 use Rattle.collections.specs.Found.{Picks, nothing, picked, passed}
 
 keep_last : {ys xs : List ℕ} (x : ℕ) → Picks ys xs → Picks (ys ++ x ∷ []) (xs ++ x ∷ [])
@@ -21,10 +22,9 @@ picks_keep ys xs new more x p e f = subst (λ z. Picks z more) (sym e) (subst (�
 pub picks_skip : (ys xs more : List ℕ) (x : ℕ) → Picks ys xs → more ≡ xs ++ x ∷ [] → Picks ys more
 picks_skip ys xs more x p f = subst (λ z. Picks ys z) (sym f) (skip_last x p)
 
-picks_less : {ys xs : List ℕ} → Picks ys xs → length ys ≤ length xs
-picks_less nothing = omega arith
-picks_less (picked x p) = let h = picks_less p in omega (arith, h)
-picks_less (passed x p) = let h = picks_less p in omega (arith, h)
+pub filter_keep : (f : ℕ → Bool) (ys xs new : List ℕ) (x : ℕ) → ys ≡ filter f xs → f x ≡ true → new ≡ ys ++ x ∷ [] → new ≡ filter f (xs ++ x ∷ [])
+filter_keep f ys xs new x e t n = n ∙ (ap (λ z. z ++ x ∷ []) e ∙ (ap (λ b. filter f xs ++ cond b (x ∷ []) []) (sym t) ∙ sym (filter-append f xs (x ∷ []))))
 
-pub picks_long : (ys xs : List ℕ) (n : ℕ) → Picks ys xs → n < length ys → n < length xs
-picks_long ys xs n p h = let l = picks_less p in omega (arith, l, h)
+pub filter_skip : (f : ℕ → Bool) (ys xs more : List ℕ) (x : ℕ) → ys ≡ filter f xs → f x ≡ false → more ≡ xs ++ x ∷ [] → ys ≡ filter f more
+filter_skip f ys xs more x e t m =
+    e ∙ (sym (append-nil (filter f xs)) ∙ (ap (λ b. filter f xs ++ cond b (x ∷ []) []) (sym t) ∙ (sym (filter-append f xs (x ∷ [])) ∙ ap (filter f) (sym m))))

@@ -2,13 +2,13 @@
 use Rattle.std.specs.Prelude.{ℕ, zero, suc, ◌+◌, ◌-◌, ℤ, Bool, true, false, not, List, [], ◌∷◌, length, Option, Some, None, nat_lt, ◌&&◌, if◌then◌else◌}
 use Rattle.std.specs.Str.{bytes_eq}
 use Rattle.std.specs.Ordering.{int_eq}
-use Rattle.node_arena.specs.Forest.{Forest}
+use Rattle.node_arena.specs.Forest.{Forest, node_at}
 use Rattle.node_arena.specs.Reads.{next_at}
 use Rattle.node_arena.specs.Store.{Store}
 use Rattle.collections.specs.declared.pattern.Pattern.{Pattern, fold-Pattern}
 use Rattle.collections.specs.declared.pattern.Pattern.TheOpen.{Pattern-F}
 use Rattle.collections.specs.declared.pattern.FieldPattern.{FieldPattern, FieldPattern-F, fold-FieldPattern}
-use Rattle.collections.specs.Reads.{Reading, text, whole, truth, null, object, node, list, comments, field_read, place_read}
+use Rattle.collections.specs.Reads.{Reading, undefined, text, whole, truth, null, object, node, list, comments, field_read, place_read}
 
 -- whether what was tried fits, and how many nodes were visited
 pub record Told : Type 0 where
@@ -108,3 +108,12 @@ matches_at A j pattern = (tried pattern A (node j)).fits
 -- how many nodes below it are visited to tell
 abbrev pub visits_at : Store → ℕ → Pattern → ℕ
 visits_at A j pattern = (tried pattern A (node j)).visits - 1
+
+-- what stands in a place, if anything does
+abbrev pub stands_read : Option ℕ → Reading
+stands_read None = undefined
+stands_read (Some j) = node j
+
+-- whether what stands in a place fits; where nothing stands, only what fits anything does
+abbrev pub fits_place : Store → Pattern → ℕ → Bool
+fits_place A pattern p = (tried pattern A (stands_read (node_at A.forest p))).fits

@@ -1,7 +1,8 @@
 //! What is found below paths, and which paths are kept.
 
-ghost use Rattle.std.specs.Prelude.{◌≡◌, ◌<◌, ◌≤◌, length, true, All, IfOk, Err};
+ghost use Rattle.std.specs.Prelude.{◌≡◌, ◌<◌, ◌≤◌, length, filter, true, All, IfOk, Err};
 ghost use Rattle.collections.specs.Found.{Picks, found_below, below_path};
+ghost use Rattle.collections.specs.Matches.{fits_place};
 
 use crate::below::below_of;
 use crate::distinct::add_all;
@@ -57,6 +58,7 @@ fn fits(arena: &Arena, path: PlaceId, pattern: &Pattern) -> bool
     requires { path < length arena.now.forest.places }
     ensures within { path < length arena.now.forest.places }
     ensures any { pattern.now ≡ Pattern.Any → result ≡ true }
+    ensures place { result ≡ fits_place arena.now pattern.now path }
 {
     match arena.node_at(path) {
         None => is_any(pattern),
@@ -65,7 +67,7 @@ fn fits(arena: &Arena, path: PlaceId, pattern: &Pattern) -> bool
 }
 
 /// The places that match, in their order.
-#[tactic(auto, using(crate::proofs::Picked::picks_none, crate::proofs::Picked::picks_keep, crate::proofs::Picked::picks_skip))]
+#[tactic(auto, using(crate::proofs::Picked::picks_none))]
 fn kept(
     alloc: Global,
     arena: &Arena,
@@ -76,6 +78,7 @@ fn kept(
     ensures within { IfOk result (λ v. All (λ p. p < length arena.now.forest.places) v) }
     ensures picks { IfOk result (λ v. Picks v paths.now) }
     ensures any { pattern.now ≡ Pattern.Any → IfOk result (λ v. v ≡ paths.now) }
+    ensures kept { IfOk result (λ v. v ≡ filter (fits_place arena.now pattern.now) paths.now) }
 {
     let mut kept = Items::new(alloc);
     for path in paths.iter().copied() {
@@ -86,7 +89,6 @@ fn kept(
     Ok(kept)
 }
 
-#[tactic(auto, using(crate::proofs::Picked::picks_long))]
 /// The places strictly below the paths where matching nodes of the kind or group stand: in preorder
 /// below each path, a place that was found before left out.
 pub fn find(
@@ -100,8 +102,9 @@ pub fn find(
     ensures within { IfOk result (λ v. All (λ p. p < length arena.now.forest.places) v) }
     ensures picks { IfOk result (λ v. Picks v (found_below arena.now.forest kind paths.now)) }
     ensures any { pattern.now ≡ Pattern.Any → IfOk result (λ v. v ≡ found_below arena.now.forest kind paths.now) }
+    ensures found { IfOk result (λ v. v ≡ filter (fits_place arena.now pattern.now) (found_below arena.now.forest kind paths.now)) }
     ensures few { IfOk result (λ v. length v ≤ 1000000) }
-    ensures long { result ≡ Err ListFault.ListLong → 1000000 < length (found_below arena.now.forest kind paths.now) }
+    ensures long { result ≡ Err ListFault.ListLong → 1000000 < length (filter (fits_place arena.now pattern.now) (found_below arena.now.forest kind paths.now)) }
 {
     let below = below_paths(alloc, arena, paths.as_slice(), kind)?;
     let found = kept(alloc, arena, &below, pattern)?;
@@ -122,6 +125,7 @@ pub fn filter(
     ensures within { IfOk result (λ v. All (λ p. p < length arena.now.forest.places) v) }
     ensures picks { IfOk result (λ v. Picks v paths.now) }
     ensures any { pattern.now ≡ Pattern.Any → IfOk result (λ v. v ≡ paths.now) }
+    ensures kept { IfOk result (λ v. v ≡ filter (fits_place arena.now pattern.now) paths.now) }
 {
     kept(alloc, arena, paths.as_slice(), pattern)
 }

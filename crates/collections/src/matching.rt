@@ -3,7 +3,7 @@
 ghost use Rattle.std.specs.Prelude.{◌≡◌, ◌<◌, ◌+◌, ◌-◌, ◌^◌, length, map, min, true, Some};
 ghost use Rattle.node_arena.specs.Store.{Store};
 ghost use Rattle.collections.specs.Values.{ReadIn};
-ghost use Rattle.collections.specs.Reads.{seen, list, object, name_read};
+ghost use Rattle.collections.specs.Reads.{seen, list, object, undefined, name_read};
 ghost use Rattle.type_defs.specs.Kinds.{kind_at};
 ghost use Rattle.collections.specs.Matches.{is_text, is_whole, is_truth, is_null, has_places, fit_object, fields_told, below_told, items_told, list_told, tried, field_tried, matches_at, visits_at};
 
@@ -102,6 +102,7 @@ fn is_long(arena: &Arena, first: PlaceId, count: usize) -> bool
 pub fn is_any(pattern: &Pattern) -> bool
     ensures any { pattern.now ≡ Pattern.Any → result ≡ true }
     ensures object { (A : Store) → result ≡ (tried pattern.now A object).fits }
+    ensures undefined { (A : Store) → result ≡ (tried pattern.now A undefined).fits }
 {
     match pattern {
         Pattern::Any => true,
