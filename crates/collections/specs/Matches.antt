@@ -8,6 +8,7 @@ use Rattle.node_arena.specs.Store.{Store}
 use Rattle.collections.specs.declared.pattern.Pattern.{Pattern, fold-Pattern}
 use Rattle.collections.specs.declared.pattern.Pattern.TheOpen.{Pattern-F}
 use Rattle.collections.specs.declared.pattern.FieldPattern.{FieldPattern, FieldPattern-F, fold-FieldPattern}
+use Rattle.collections.specs.Below.{is_of}
 use Rattle.collections.specs.Reads.{Reading, undefined, text, whole, truth, null, object, node, list, comments, field_read, place_read}
 
 -- whether what was tried fits, and how many nodes were visited
@@ -117,3 +118,7 @@ stands_read (Some j) = node j
 -- whether what stands in a place fits; where nothing stands, only what fits anything does
 abbrev pub fits_place : Store → Pattern → ℕ → Bool
 fits_place A pattern p = (tried pattern A (stands_read (node_at A.forest p))).fits
+
+-- whether a node of the kind or group that fits stands in the place
+abbrev pub fits_kind : Store → Pattern → ℕ → ℕ → Bool
+fits_kind A pattern kind p = fits_place A pattern p && is_of A.forest kind p

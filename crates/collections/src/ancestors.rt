@@ -2,7 +2,7 @@
 
 ghost use Rattle.std.specs.Prelude.{◌≡◌, ◌<◌, ◌≤◌, length, All, Err, IfOk, IfSome};
 ghost use Rattle.collections.specs.Above.{nearest, nearest_all};
-ghost use Rattle.collections.specs.Below.{is_of};
+ghost use Rattle.collections.specs.Matches.{fits_kind};
 ghost use Rattle.collections.specs.Found.{alone};
 
 use crate::below::is_of;
@@ -20,7 +20,7 @@ use std::alloc::{AllocError, Global};
 /// Whether a matching node of the kind or group stands in the place.
 fn fits(arena: &Arena, place: PlaceId, kind: u8, pattern: &Pattern) -> bool
     requires { place < length arena.now.forest.places }
-    ensures any { pattern.now ≡ Pattern.Any → result ≡ is_of arena.now.forest kind place }
+    ensures { result ≡ fits_kind arena.now pattern.now kind place }
 {
     match arena.node_at(place) {
         None => false,
@@ -33,7 +33,7 @@ fn fits(arena: &Arena, place: PlaceId, kind: u8, pattern: &Pattern) -> bool
 fn nearest(arena: &Arena, path: PlaceId, kind: u8, pattern: &Pattern) -> Option<PlaceId>
     requires { path < length arena.now.forest.places }
     ensures within { IfSome result (λ p. p < length arena.now.forest.places) }
-    ensures any { pattern.now ≡ Pattern.Any → result ≡ nearest arena.now.forest kind path }
+    ensures found { result ≡ nearest arena.now.forest (fits_kind arena.now pattern.now kind) path }
 {
     let mut at = path;
     for _turn in 0..arena.nodes() {
@@ -58,7 +58,7 @@ fn nearest_path(
     pattern: &Pattern,
 ) -> Result<Vec<PlaceId>, AllocError>
     requires { path < length arena.now.forest.places }
-    ensures any { pattern.now ≡ Pattern.Any → IfOk result (λ v. v.items ≡ alone (nearest arena.now.forest kind path)) }
+    ensures found { IfOk result (λ v. v.items ≡ alone (nearest arena.now.forest (fits_kind arena.now pattern.now kind) path)) }
     ensures within { IfOk result (λ v. All (λ p. p < length arena.now.forest.places) v.items) }
 {
     let mut found = Vec::new(alloc);
@@ -78,7 +78,7 @@ fn nearest_paths(
     pattern: &Pattern,
 ) -> Result<Vec<PlaceId>, AllocError>
     requires { All (λ p. p < length arena.now.forest.places) paths.now }
-    ensures any { pattern.now ≡ Pattern.Any → IfOk result (λ v. v.items ≡ nearest_all arena.now.forest kind paths.now) }
+    ensures found { IfOk result (λ v. v.items ≡ nearest_all arena.now.forest (fits_kind arena.now pattern.now kind) paths.now) }
     ensures within { IfOk result (λ v. All (λ p. p < length arena.now.forest.places) v.items) }
 {
     let mut seen = IndexSet::new(alloc);
@@ -101,9 +101,9 @@ pub fn closest(
 ) -> Result<Paths, ListFault>
     requires { All (λ p. p < length arena.now.forest.places) paths.now }
     ensures within { IfOk result (λ v. All (λ p. p < length arena.now.forest.places) v) }
-    ensures any { pattern.now ≡ Pattern.Any → IfOk result (λ v. v ≡ nearest_all arena.now.forest kind paths.now) }
+    ensures found { IfOk result (λ v. v ≡ nearest_all arena.now.forest (fits_kind arena.now pattern.now kind) paths.now) }
     ensures few { IfOk result (λ v. length v ≤ 1000000) }
-    ensures long { pattern.now ≡ Pattern.Any → result ≡ Err ListFault.ListLong → 1000000 < length (nearest_all arena.now.forest kind paths.now) }
+    ensures long { result ≡ Err ListFault.ListLong → 1000000 < length (nearest_all arena.now.forest (fits_kind arena.now pattern.now kind) paths.now) }
 {
     let found = nearest_paths(alloc, arena, paths.as_slice(), kind, pattern)?;
     if found.len() > MOST_ITEMS {
