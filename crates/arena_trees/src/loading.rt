@@ -112,6 +112,6 @@ fn load_place(
 {
     match &place.node {
         None => Ok(()),
-        Some(tree) => load_node(alloc, arena, tree.get(), at),
+        Some(tree) => load_node(alloc, arena, tree, at),
     }
 }

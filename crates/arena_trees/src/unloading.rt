@@ -165,6 +165,6 @@ fn unload_place(
     let _child = path.pop();
     Ok(Place {
         name,
-        node: Some(Box::new(alloc, tree)?),
+        node: Some(tree.boxed(alloc)?),
     })
 }
