@@ -14,6 +14,7 @@ mod reading;
 mod seating;
 mod slot_def;
 mod slots;
+mod spellings;
 #[cfg(test)]
 mod tests;
 

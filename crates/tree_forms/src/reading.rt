@@ -4,11 +4,13 @@ ghost use Rattle.std.specs.Prelude.{◌≡◌, [], ◌∷◌, map, slice_get};
 ghost use Rattle.std.specs.Option.{option_copied, option_map};
 ghost use Rattle.std.specs.Str.{bytes_eq};
 ghost use Rattle.tree_core.specs.View.{syntax, slot_view, place_view, slots_of, places_of};
+ghost use Rattle.tree_forms.specs.Choice.{is_either};
 ghost use Rattle.tree_forms.specs.Reading as spec;
 ghost use Rattle.tree_forms.specs.Shapes.{first_place};
 
 use sqlite_items::at;
 use tree_core::{Place, Scalar, Scalars, Slot, Tree};
+use type_defs::Kind;
 
 /// Whether the scalar is this text.
 pub fn is_text_at(scalars: &Scalars, number: usize, text: &str) -> bool
@@ -103,4 +105,11 @@ fn in_place(place: &Place) -> Option<&Tree>
         None => None,
         Some(node) => Some(node),
     }
+}
+
+/// Whether the node is of one of two kinds.
+pub fn is_kind(tree: &Tree, one: Kind, other: Kind) -> bool
+    ensures { result ≡ is_either one other (syntax tree.now) }
+{
+    tree.kind == one.number() || tree.kind == other.number()
 }
