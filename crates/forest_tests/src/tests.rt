@@ -160,3 +160,47 @@ fn a_program_declares_its_names(rt: HostRuntime) {
     let arena = loaded(alloc, "var a; { let a; a; } a;").expect(&rt, "a tree");
     assert!(rt; only_binding(alloc, &arena, "/0/0/0") == Some((1, true)));
 }
+
+// The number of the kind of the node at an address.
+fn kind_by(arena: &Arena, address: &str) -> Option<u8> {
+    let node = node_by(arena, address)?;
+    Some(arena.kind(node))
+}
+
+// Which kinds the trees of sources have at an address, and where statements end: no node stands at
+// the address of a statement that is none of its own.
+#[test]
+fn sources_have_these_trees(rt: HostRuntime) {
+    let alloc = rt.alloc();
+    // 1 Identifier, 9 ArrowFunctionExpression, 16 MemberExpression, 20 ChainExpression, 22
+    // UpdateExpression, 28 AssignmentExpression, 33 ObjectPattern, 38 Directive, 39
+    // ExpressionStatement, 41 EmptyStatement
+    let rows: [(&str, &str, Option<u8>); 22] = [
+        ("({a = 1}) => 0", "/0/0", Some(9)),
+        ("({a = 1}) => 0", "/0/0/0", Some(33)),
+        ("(a?.b).c", "/0/0", Some(16)),
+        ("a?.b.c", "/0/0", Some(20)),
+        ("a\n++b", "/1/0", Some(22)),
+        ("a\n++\nb", "/0/0", Some(1)),
+        ("a\n(b)", "/1", None),
+        ("a\n[b]", "/1", None),
+        ("a\n+ b", "/1", None),
+        ("a => {}\n[b]", "/1", Some(39)),
+        ("var a\n(b)", "/1", Some(39)),
+        ("do ; while (a) b", "/1", Some(39)),
+        ("do a; while (b); ;", "/1", Some(41)),
+        ("return\nx", "/1", Some(39)),
+        ("a\n/=b/c", "/0/0", Some(28)),
+        ("a\n/=b/c", "/1", None),
+        ("export {a}\nfrom 'b'", "/1", None),
+        ("export {a}\nb", "/1", Some(39)),
+        ("'a'\n'b'", "/1", Some(38)),
+        ("'a'\n+ 'b'", "/0", Some(39)),
+        ("('a')", "/0", Some(39)),
+        ("async\nfunction f() {}", "/0/0", Some(1)),
+    ];
+    for (text, address, kind) in rows {
+        let arena = loaded(alloc, text).expect(&rt, "a tree");
+        assert!(rt; kind_by(&arena, address) == kind, "{text}");
+    }
+}

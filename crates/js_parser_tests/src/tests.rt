@@ -23,7 +23,7 @@ fn refused(alloc: Global, text: &str) -> Result<Option<u32>, Fail> {
 
 #[test]
 fn reads_programs(rt: HostRuntime) -> Result<(), Fail> {
-    let cases: [&str; 67] = [
+    let cases: [&str; 74] = [
         "",
         "a;",
         "a\n++b",
@@ -90,6 +90,13 @@ fn reads_programs(rt: HostRuntime) -> Result<(), Fail> {
         "for (a of (b, c)) d; for ((async) of a) b; for (async in a) b",
         "for await (async of a) b; for await (async\nof of) b; for (async of => a; ; ) b; for (\\u0061sync of a) b",
         "function* f() { yield *\n a; yield\n/b/ }",
+        "({set a(b, ) {}}); [...a, ]; ({...a, })",
+        "a<!--b; a-->b; 017 + 089",
+        "let a; let a; break; continue; return",
+        "class A { static { return; } [await a] = 1; } class B extends (await c) {}",
+        "class A { get\n a() {} static\n b; c\n in\n instanceof\n d = 1\n in e }",
+        "a\n++\nb; async\nfunction f() {}\nasync\nc => d",
+        "import a from 'b'\nexport {a}\nc",
         "#!/usr",
     ];
     for text in cases {
@@ -105,7 +112,7 @@ fn reads_programs(rt: HostRuntime) -> Result<(), Fail> {
 
 #[test]
 fn refuses_at_the_place(rt: HostRuntime) -> Result<(), Fail> {
-    let cases: [(&str, u32); 65] = [
+    let cases: [(&str, u32); 100] = [
         ("a ?? b || c", 7),
         ("a || b ?? c", 7),
         ("a && b ?? c", 7),
@@ -171,6 +178,41 @@ fn refuses_at_the_place(rt: HostRuntime) -> Result<(), Fail> {
         ("{ import a from 'b' }", 9),
         ("class A { #constructor() {} }", 22),
         ("v\\u0061r a", 0),
+        ("[a] += b", 4),
+        ("++(a + b)", 9),
+        ("for (var a, b of c) ;", 14),
+        ("for (let a = 1 of b) ;", 15),
+        ("for (const a; ; ) ;", 12),
+        ("let [...a, b] = c", 9),
+        ("let {...[a]} = b", 8),
+        ("({...[a]} = b)", 10),
+        ("({...a, b} = c)", 11),
+        ("function f(...a, ) {}", 15),
+        ("a?.b\n`c`", 5),
+        ("function f() { for await (a of b) ; }", 19),
+        ("class A { static { await a } }", 19),
+        ("class A { a = await b }", 14),
+        ("class A { static { yield a } }", 19),
+        ("a.#b", 2),
+        ("class A { a = 1\n*b() {} }", 21),
+        ("({async\na() {}})", 8),
+        ("`a${b}\\u`", 5),
+        ("new.t\\u0061rget", 4),
+        ("import.met\\u0061", 7),
+        ("import {a \\u0061s b} from 'c'", 10),
+        ("import {if} from 'a'", 10),
+        ("let = 1", 4),
+        ("var await", 4),
+        ("yield = 1", 0),
+        ("a: function b() {}", 3),
+        ("if (a) class B {}", 7),
+        ("while (a) const b = 1", 10),
+        ("switch (a) { b; }", 13),
+        ("<!-- a", 0),
+        ("export {a as 'b'}", 13),
+        ("export default var a", 15),
+        ("a = <b/>", 4),
+        ("let a: b", 5),
     ];
     for (text, want) in cases {
         let found = refused(rt.alloc(), text)?;

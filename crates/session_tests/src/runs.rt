@@ -14,6 +14,14 @@ const SCRIPT: &str =
 
 const PRINTING: &str = "module.exports = (file, api) => api.jscodeshift(file.source).toSource();\n";
 
+// It renames `c` to `d`.
+const RENAMING_C: &str =
+    "module.exports = (file, api) => api.jscodeshift(file.source).find(api.jscodeshift.Identifier, { name: \"c\" }).replaceWith(api.jscodeshift.identifier(\"d\")).toSource();";
+
+// It renames `a` to `async`.
+const TO_ASYNC: &str =
+    "module.exports = (file, api) => api.jscodeshift(file.source).find(api.jscodeshift.Identifier, { name: \"a\" }).replaceWith(api.jscodeshift.identifier(\"async\")).toSource();";
+
 const SOURCE: &[u8] = b"foo(a, b);";
 
 const RENAMED: &[u8] = b"foo(b, b);";
@@ -118,7 +126,7 @@ fn comes_out(alloc: Global, run: &Run<'_>, fail: Option<u64>) -> Result<bool, Al
 }
 
 // Scripts, sources, and the rows of dry runs over one file.
-const ROWS: [(&str, &[u8], &str); 16] = [
+const ROWS: [(&str, &[u8], &str); 31] = [
     (SCRIPT, SOURCE, "ok a.js\ntext 10\nfoo(b, b);\n"),
     (SCRIPT, b"a.a = f(a);", "ok a.js\ntext 11\nb.b = f(b);\n"),
     (SCRIPT, b"f(;", "error a.js: syntax Unexpected at 2\n"),
@@ -142,7 +150,58 @@ const ROWS: [(&str, &[u8], &str); 16] = [
     (PRINTING, b"\"\\8\"", "error a.js: syntax BadEscape at 0\n"),
     (PRINTING, b"3in x", "error a.js: syntax BadNumber at 0\n"),
     (PRINTING, b"a = #", "error a.js: syntax BadChar at 4\n"),
+    (
+        PRINTING,
+        b"x = 1__0;",
+        "error a.js: syntax BadNumber at 4\n",
+    ),
+    (
+        PRINTING,
+        b"x = #y in z;",
+        "error a.js: syntax Unexpected at 4\n",
+    ),
+    (
+        PRINTING,
+        b"a ?? b || c",
+        "error a.js: syntax Unexpected at 7\n",
+    ),
     (PRINTING, SOURCE, "unmodified a.js\n"),
+    (PRINTING, b"", "unmodified a.js\n"),
+    (
+        PRINTING,
+        b"\xEF\xBB\xBF#!/usr/bin/env node\r\n\ta\r\n\tb()",
+        "unmodified a.js\n",
+    ),
+    (
+        PRINTING,
+        b"class A { #x; has(o) { return #x in o; } }",
+        "unmodified a.js\n",
+    ),
+    (SCRIPT, b"a ||= 1_000;", "ok a.js\ntext 12\nb ||= 1_000;\n"),
+    (SCRIPT, b"await a;", "ok a.js\ntext 8\nawait b;\n"),
+    (SCRIPT, b"f({ a });", "ok a.js\ntext 9\nf({ b });\n"),
+    (
+        SCRIPT,
+        b"import x from \"m\";\nexport { a as c };",
+        "ok a.js\ntext 37\nimport x from \"m\";\nexport { b as c };\n",
+    ),
+    (
+        SCRIPT,
+        b"export { a };",
+        "ok a.js\ntext 13\nexport { b };\n",
+    ),
+    (
+        SCRIPT,
+        b"import { a } from \"m\";",
+        "ok a.js\ntext 22\nimport { b } from \"m\";\n",
+    ),
+    (RENAMING_C, b"(a?.b).c", "ok a.js\ntext 8\n(a?.b).d\n"),
+    (RENAMING_C, b"a?.b.c", "ok a.js\ntext 6\na?.b.d\n"),
+    (
+        TO_ASYNC,
+        b"for (a of x);",
+        "ok a.js\ntext 19\nfor ((async) of x);\n",
+    ),
 ];
 
 // The lines of the counts behind one row.
@@ -473,6 +532,9 @@ fn limits(rt: HostRuntime) -> Result<(), Fail> {
             "error a.js: syntax Nesting at 1996\n"
         )?
     );
+    let closing = repeated(alloc, "a", ")", 1_001, "")?;
+    let source = repeated(alloc, "", "(", 1_001, closing.as_str())?;
+    assert!(rt; begins(alloc, source.as_str(), "error a.js: syntax Nesting at ")?);
     for (front, piece, times, back, line) in LIMITS.iter() {
         let source = repeated(alloc, front, piece, *times, back)?;
         assert!(rt; begins(alloc, source.as_str(), line)?, "for {line}");
