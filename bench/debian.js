@@ -1,4 +1,4 @@
-// What both scripts take from Debian: its copy of acorn, and the JavaScript files of its packages.
+// What the scripts take from Debian: its copy of acorn, and the JavaScript files of its packages.
 "use strict";
 
 const { execFileSync } = require("child_process");
