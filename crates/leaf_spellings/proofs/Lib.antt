@@ -3,3 +3,7 @@ pub mod ShortLists
 pub mod OneToken
 pub mod NameLeaves
 pub mod Slotted
+pub mod WordLeaves
+pub mod StatementLeaves
+pub mod LiteralLeaves
+pub mod TemplateLeaves

@@ -1,11 +1,11 @@
 -- What bytes in ASCII spell that have no escapes and no carriage returns.
-use Rattle.std.proofs.Common.{◌≡◌, ◌<◌, ◌+◌, ◌-◌, ℕ, suc, List, [], ◌∷◌, ◌++◌, length, get_or, Option, Some, Ok, Err, refl, ap, sym, ◌∙◌, arith}
+use Rattle.std.proofs.Common.{◌≡◌, ◌<◌, ◌+◌, ◌-◌, ℕ, suc, List, [], ◌∷◌, ◌++◌, length, get_or, Bool, true, false, Option, Some, Ok, Err, refl, ap, sym, ◌∙◌, arith}
 use Rattle.std.specs.Option.{option_map_or}
 use Rattle.std.proofs.lemmas.Bool.{lt-ltb, ne_eqb}
 use Rattle.std.proofs.lemmas.Grind.{same_number_lists}
 use Rattle.js_tokens.specs.Characters.{first_char}
 use Rattle.js_tokens.specs.Pieces.{character, coded}
-use Rattle.js_tokens.specs.Texts.{piece_units, plain_piece, cooked_piece, plain_units, cooked_units, before}
+use Rattle.js_tokens.specs.Texts.{piece_units, plain_piece, cooked_piece, plain_units, cooked_units, before, code_units}
 use Rattle.js_tokens.specs.declared.piece.Piece.{Piece}
 use Rattle.js_tokens.specs.declared.text.Spelled.{Spelled}
 use Rattle.js_tokens.specs.declared.text.Spelled.TheVariants.{AsWritten, InTemplate, InName}
@@ -68,3 +68,7 @@ plain_texts bytes units long low no_escape no_return same =
       in_template = is ∙ sym (plain-units InTemplate bytes low no_escape no_return);
       in_quotes = string-units 0 bytes low no_escape ∙ ap Ok (sym is);
     }
+
+pub plain_written : (bytes units : List ℕ) (template : Bool) → SpellsPlainly bytes units → units ≡ code_units template bytes
+plain_written bytes units true plain = plain.in_template
+plain_written bytes units false plain = plain.written

@@ -5,7 +5,11 @@ ghost use Rattle.tree_core.specs.View.{syntax};
 ghost use Rattle.leaf_spellings.specs.Begun.{Begins};
 ghost use Rattle.leaf_spellings.specs.Leaves.{Leaf, LeafSpelled};
 
+use crate::literals::is_literal;
 use crate::names::{is_name, is_private_name};
+use crate::statements::{is_debugger, is_directive, is_empty};
+use crate::template::is_characters;
+use crate::words::{is_meta_property, is_super, is_this};
 use cm_text::Source;
 use js_lexer::next;
 use js_tokens::{Goal, Token};
@@ -43,6 +47,13 @@ fn is_leaf(
     match Kind::from_number(kind) {
         Some(Kind::Identifier) => is_name(alloc, source, span, token, scalars),
         Some(Kind::PrivateIdentifier) => is_private_name(alloc, source, span, token, scalars),
+        Some(Kind::Literal) => is_literal(alloc, source, span, token, scalars),
+        Some(Kind::ThisExpression) => Ok(is_this(source, span, token, scalars)),
+        Some(Kind::Super) => Ok(is_super(source, span, token, scalars)),
+        Some(Kind::MetaProperty) => Ok(is_meta_property(source, span, token, scalars)),
+        Some(Kind::EmptyStatement) => Ok(is_empty(source, span, token, scalars)),
+        Some(Kind::DebuggerStatement) => Ok(is_debugger(source, span, token, scalars)),
+        Some(Kind::Directive) => is_directive(alloc, source, span, token, scalars),
         _ => Ok(false),
     }
 }
@@ -61,6 +72,9 @@ pub fn is_spelled(
 {
     if !tree.slots.is_empty() {
         return Ok(true);
+    }
+    if tree.kind == Kind::TemplateElement.number() {
+        return is_characters(alloc, source, span, &tree.scalars);
     }
     match token_at(source, span) {
         Some(token) => is_leaf(alloc, source, span, token, tree.kind, &tree.scalars),

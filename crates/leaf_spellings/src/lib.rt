@@ -5,8 +5,12 @@
 #![tactic(auto)]
 
 mod leaf;
+mod literals;
 mod names;
 mod same;
 mod scalars;
+mod statements;
+mod template;
+mod words;
 
 pub use leaf::is_spelled;

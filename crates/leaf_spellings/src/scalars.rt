@@ -1,8 +1,11 @@
 //! The scalars of a leaf.
 
 ghost use Rattle.std.specs.Prelude.{◌≡◌, [], ◌∷◌, IfSome};
+ghost use Rattle.js_forms.specs.Fixed as spec;
 ghost use Rattle.tree_core.specs.declared.scalars.Scalar.TheVariants as scalar;
 
+use crate::same::same_text;
+use js_forms::Sort;
 use tree_core::{Scalar, Scalars};
 
 /// The text of scalars that are one text alone.
@@ -15,6 +18,40 @@ pub fn one_text(scalars: &Scalars) -> Option<&[u16]>
     }
     match scalars.get(0) {
         Some(Scalar::Text(units)) => Some(units.get()),
+        _ => None,
+    }
+}
+
+// The name of a sort of literal.
+#[tactic(auto, unfolding(js_forms::specs::Fixed::sort_name))]
+fn sort_name(sort: Sort) -> &'static str
+    ensures { result.now ≡ spec.sort_name sort }
+{
+    match sort {
+        Sort::Quoted => "string",
+        Sort::Number => "number",
+        Sort::BigInt => "bigint",
+        Sort::True | Sort::False => "boolean",
+        Sort::Null => "null",
+        Sort::Regex => "regexp",
+    }
+}
+
+/// The value and the flags of a literal of this sort.
+#[tactic(auto, using(crate::proofs::ShortLists::three_of))]
+pub fn value_of(scalars: &Scalars, sort: Sort) -> Option<(&Scalar, &Scalar)>
+    ensures { IfSome result (λ held. scalars.now ≡ scalar.Text (spec.sort_name sort) ∷ held.0.now ∷ held.1.now ∷ []) }
+{
+    if scalars.len() != 3 {
+        return None;
+    }
+    match (scalars.get(0), scalars.get(1), scalars.get(2)) {
+        (Some(Scalar::Text(name)), Some(value), Some(flags)) => {
+            if same_text(name.get(), sort_name(sort)) {
+                return Some((value, flags));
+            }
+            None
+        }
         _ => None,
     }
 }

@@ -1,0 +1,100 @@
+//! Statements without slots, and the ends of statements (ECMA-262, clauses 12.10, 14.4, 14.16 and
+//! 11.2.1).
+
+ghost use Rattle.std.specs.Prelude.{◌≡◌, ◌≤◌, length, true, false, IfOk};
+ghost use Rattle.tree_forms.specs.Spells as spec;
+ghost use Rattle.type_defs.specs.Kinds.{number_of};
+ghost use Rattle.type_defs.specs.declared.kind.Kind.TheVariants as kind;
+ghost use Rattle.leaf_spellings.specs.Begun.{Begins, EndsStatement};
+ghost use Rattle.leaf_spellings.specs.Leaves.{Leaf};
+
+use crate::same::spells_written;
+use crate::scalars::one_text;
+use crate::words::{is_mark, is_word};
+use asi_rules::{EndLevels, Ending, may_end, would_join};
+use cm_text::Source;
+use js_lexer::next;
+use js_tokens::{Goal, Punctuator, Token, TokenKind, Word};
+use std::alloc::{AllocError, Global};
+use tree_core::{Scalars, Span};
+
+/// The level of a string, which is the expression of a directive.
+const STRING_LEVEL: u8 = 19;
+
+// Whether the `;` of a statement may be missing before the token, where this is the greatest level of
+// the statement's ends.
+fn may_miss(token: Token, most: u8) -> bool
+    ensures { result ≡ spec.may_miss Ending.Statement false most token }
+{
+    let ends = EndLevels {
+        least: most,
+        most,
+        clause: false,
+        word: Ending::Statement,
+    };
+    let joins = would_join(ends, token.kind);
+    !is_mark(token.kind, Punctuator::Semicolon)
+        && (may_end(false, token.kind) || (token.broken_before && !joins))
+}
+
+// Whether the end of a statement goes from the offset up to the end: a `;`, or nothing where that may
+// be missing.
+#[tactic(auto, using(crate::proofs::StatementLeaves::a_semicolon, crate::proofs::StatementLeaves::a_missing_one))]
+fn is_statement_end(source: &Source, at: u32, most: u8, end: u32) -> bool
+    requires { at ≤ length source.now }
+    ensures { result ≡ true → EndsStatement source.now most at end }
+{
+    let Ok(token) = next(source, at, Goal::Div) else {
+        return false;
+    };
+    if is_mark(token.kind, Punctuator::Semicolon) {
+        return token.end == end;
+    }
+    at == end && may_miss(token, most)
+}
+
+/// Whether the stretch is a statement that is a `;` alone.
+#[tactic(auto, using(crate::proofs::StatementLeaves::an_empty_one))]
+pub fn is_empty(source: &Source, span: Span, token: Token, scalars: &Scalars) -> bool
+    requires { Begins source.now span token }
+    ensures { result ≡ true → Leaf source.now span.start span.end (number_of kind.EmptyStatement) scalars.now }
+{
+    if scalars.len() != 0 || token.end != span.end {
+        return false;
+    }
+    is_mark(token.kind, Punctuator::Semicolon)
+}
+
+/// Whether the stretch is `debugger` with its end.
+#[tactic(auto, using(crate::proofs::StatementLeaves::a_debugger))]
+pub fn is_debugger(source: &Source, span: Span, token: Token, scalars: &Scalars) -> bool
+    requires { Begins source.now span token }
+    ensures { result ≡ true → Leaf source.now span.start span.end (number_of kind.DebuggerStatement) scalars.now }
+{
+    if scalars.len() != 0 || !is_word(token.kind, Word::Debugger) {
+        return false;
+    }
+    is_statement_end(source, token.end, 0, span.end)
+}
+
+/// Whether the stretch is a string whose text between the quotes is this directive, with its end.
+#[tactic(auto, using(crate::proofs::StatementLeaves::a_directive))]
+pub fn is_directive(
+    alloc: Global,
+    source: &Source,
+    span: Span,
+    token: Token,
+    scalars: &Scalars,
+) -> Result<bool, AllocError>
+    requires { Begins source.now span token }
+    ensures { IfOk result (λ held. held ≡ true → Leaf source.now span.start span.end (number_of kind.Directive) scalars.now) }
+{
+    if token.end - token.start < 2 || !is_statement_end(source, token.end, STRING_LEVEL, span.end) {
+        return Ok(false);
+    }
+    let inside = &source.bytes()[token.start as usize + 1..token.end as usize - 1];
+    match (token.kind, one_text(scalars)) {
+        (TokenKind::Quoted, Some(text)) => spells_written(alloc, inside, false, text),
+        _ => Ok(false),
+    }
+}
