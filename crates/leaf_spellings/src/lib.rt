@@ -11,6 +11,8 @@ mod same;
 mod scalars;
 mod statements;
 mod template;
+#[cfg(test)]
+mod tests;
 mod words;
 
 pub use leaf::is_spelled;
