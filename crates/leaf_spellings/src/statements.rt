@@ -22,7 +22,7 @@ use tree_core::{Scalars, Span};
 const STRING_LEVEL: u8 = 19;
 
 // Whether the `;` of a statement may be missing before the token, where this is the greatest level of
-// the statement's ends.
+// the statement's ends. What may end it on its line may end it behind a line end too.
 fn may_miss(token: Token, most: u8) -> bool
     ensures { result ≡ spec.may_miss Ending.Statement false most token }
 {
