@@ -20,11 +20,12 @@ fn ascii_units(alloc: Global, bytes: &[u8]) -> Result<Units, AllocError>
     Ok(Units::new(units))
 }
 
-fn text(alloc: Global, spelling: &str) -> Result<Scalars, AllocError>
+// The text, with room for so many scalars in all.
+fn text(alloc: Global, room: usize, spelling: &str) -> Result<Scalars, AllocError>
     ensures { IfOk result (λ all. all ≡ scalar.Text spelling.now ∷ []) }
 {
     let units = ascii_units(alloc, spelling.as_bytes())?;
-    Ok(Scalars::one(Scalar::Text(units)))
+    Scalars::with_room(alloc, room)?.with(alloc, Scalar::Text(units))
 }
 
 fn truth(truth: bool) -> Scalars
@@ -107,7 +108,7 @@ fn property(
 ) -> Result<Scalars, AllocError>
     ensures { IfOk result (λ all. all ≡ spec.property kind.now method shorthand key) }
 {
-    text(alloc, kind)?
+    text(alloc, 4, kind)?
         .with(alloc, Scalar::Truth(method))?
         .with(alloc, Scalar::Truth(shorthand))?
         .with(alloc, Scalar::Truth(is_computed(key)))
@@ -125,7 +126,7 @@ fn property_method(alloc: Global, access: Access, key: Key) -> Result<Scalars, A
 fn literal(alloc: Global, sort: Sort) -> Result<Scalars, AllocError>
     ensures { IfOk result (λ all. all ≡ spec.literal sort) }
 {
-    let scalars = text(alloc, sort_name(sort))?;
+    let scalars = text(alloc, 3, sort_name(sort))?;
     match sort {
         Sort::True => scalars
             .with(alloc, Scalar::Truth(true))?
@@ -142,11 +143,11 @@ fn literal(alloc: Global, sort: Sort) -> Result<Scalars, AllocError>
 fn operation(alloc: Global, form: Form, operator: Operator) -> Result<Scalars, AllocError>
     ensures { IfOk result (λ all. all ≡ spec.operation form operator) }
 {
-    let scalars = text(alloc, operator.spelling())?;
+    let operator = operator.spelling();
     match form {
-        Form::Prefix(_) => scalars.with(alloc, Scalar::Truth(true)),
-        Form::Postfix(_) => scalars.with(alloc, Scalar::Truth(false)),
-        _ => Ok(scalars),
+        Form::Prefix(_) => text(alloc, 2, operator)?.with(alloc, Scalar::Truth(true)),
+        Form::Postfix(_) => text(alloc, 2, operator)?.with(alloc, Scalar::Truth(false)),
+        _ => text(alloc, 1, operator),
     }
 }
 
@@ -158,7 +159,7 @@ fn member(alloc: Global, form: Form) -> Result<Scalars, AllocError>
         Form::Property(key) => property(alloc, "init", false, false, key),
         Form::ShorthandProperty => property(alloc, "init", false, true, Key::Plain),
         Form::PropertyMethod(access, _, key) => property_method(alloc, access, key),
-        Form::Method(access, standing, _, key) => text(alloc, access_name(access))?
+        Form::Method(access, standing, _, key) => text(alloc, 3, access_name(access))?
             .with(alloc, Scalar::Truth(is_static(standing)))?
             .with(alloc, Scalar::Truth(is_computed(key))),
         Form::Field(standing, key) => {
@@ -184,10 +185,10 @@ fn other(alloc: Global, form: Form) -> Result<Scalars, AllocError>
         Form::Dot(link) => truth(false).with(alloc, Scalar::Truth(is_optional(link))),
         Form::Index(link) => truth(true).with(alloc, Scalar::Truth(is_optional(link))),
         Form::Call(link) => Ok(truth(is_optional(link))),
-        Form::NewTarget => text(alloc, "new.target"),
-        Form::ImportMeta => text(alloc, "import.meta"),
+        Form::NewTarget => text(alloc, 1, "new.target"),
+        Form::ImportMeta => text(alloc, 1, "import.meta"),
         Form::Variables(variable) | Form::HeadVariables(variable) => {
-            text(alloc, variable_name(variable))
+            text(alloc, 1, variable_name(variable))
         }
         Form::Yield | Form::YieldValue | Form::ForOf => Ok(truth(false)),
         Form::YieldStar | Form::ForAwait => Ok(truth(true)),

@@ -1,6 +1,6 @@
-//! The scalars of a node. Most nodes have few, so up to two are held in place.
+//! The scalars of a node. Most nodes have one or none, which are held in place.
 
-ghost use Rattle.std.specs.Prelude.{◌≡◌, [], ◌∷◌, ◌++◌, length, slice_get, OnOk};
+ghost use Rattle.std.specs.Prelude.{◌≡◌, [], ◌∷◌, ◌++◌, length, slice_get, IfOk, OnOk};
 ghost use Rattle.std.specs.Option.{option_copied};
 
 use crate::units::Units;
@@ -20,7 +20,6 @@ pub enum Scalar {
 enum Held {
     Nothing,
     One(Scalar),
-    Two(Scalar, Scalar),
     Many(Items<Scalar>),
 }
 
@@ -49,6 +48,18 @@ impl Scalars {
         }
     }
 
+    /// None yet, with room for so many.
+    pub fn with_room(alloc: Global, count: usize) -> Result<Scalars, AllocError>
+        ensures { IfOk result (λ scalars. scalars ≡ []) }
+    {
+        if count < 2 {
+            return Ok(Scalars::new());
+        }
+        Ok(Scalars {
+            held: Held::Many(Items::from_vec(Vec::with_capacity(alloc, count)?)),
+        })
+    }
+
     /// One scalar alone.
     pub fn one(scalar: Scalar) -> Scalars
         ensures { result ≡ scalar ∷ [] }
@@ -64,7 +75,6 @@ impl Scalars {
         match &self.held {
             Held::Nothing => 0,
             Held::One(_) => 1,
-            Held::Two(_, _) => 2,
             Held::Many(all) => all.len(),
         }
     }
@@ -80,30 +90,20 @@ impl Scalars {
                 }
                 None
             }
-            Held::Two(a, b) => {
-                if at == 0 {
-                    return Some(a);
-                }
-                if at == 1 {
-                    return Some(b);
-                }
-                None
-            }
             Held::Many(all) => all.get(at),
         }
     }
 
-    /// These scalars and one more behind them. Only from the third on does it take memory.
+    /// These scalars and one more behind them. The first takes no memory, nor does one for which there
+    /// is room.
     pub fn with(self, alloc: Global, scalar: Scalar) -> Result<Scalars, AllocError>
         ensures { OnOk result (result ≡ Ok (self ++ scalar ∷ [])) }
     {
         let held = match self.held {
             Held::Nothing => Held::One(scalar),
-            Held::One(a) => Held::Two(a, scalar),
-            Held::Two(a, b) => {
-                let mut all = Items::new(alloc);
+            Held::One(a) => {
+                let mut all = Items::from_vec(Vec::with_capacity(alloc, 2)?);
                 all.push(a)?;
-                all.push(b)?;
                 all.push(scalar)?;
                 Held::Many(all)
             }
@@ -114,6 +114,7 @@ impl Scalars {
         };
         Ok(Scalars { held })
     }
+
     /// These scalars and then the others.
     pub fn append(self, alloc: Global, more: Scalars) -> Result<Scalars, AllocError>
         ensures { OnOk result (result ≡ Ok (self ++ more)) }
@@ -121,7 +122,6 @@ impl Scalars {
         match more.held {
             Held::Nothing => Ok(self),
             Held::One(a) => self.with(alloc, a),
-            Held::Two(a, b) => self.with(alloc, a)?.with(alloc, b),
             Held::Many(more) => {
                 let mut all = self.into_items(alloc)?;
                 all.append(more)?;
@@ -139,10 +139,6 @@ impl Scalars {
         match self.held {
             Held::Nothing => {}
             Held::One(a) => all.push(a)?,
-            Held::Two(a, b) => {
-                all.push(a)?;
-                all.push(b)?;
-            }
             Held::Many(more) => all = more,
         }
         Ok(all)
