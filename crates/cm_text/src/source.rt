@@ -59,6 +59,13 @@ impl Source {
         &self.bytes
     }
 
+    /// The bytes of the text, which is no source any more.
+    pub fn into_bytes(self) -> Vec<u8>
+        ensures { result.items ≡ self }
+    {
+        self.bytes
+    }
+
     /// How many line ends stand before the offset. One that the offset falls into, as between the
     /// two bytes of CR LF, does not count: it counts from where it ends.
     pub fn line_of(&self, at: u32) -> u32

@@ -47,56 +47,57 @@ fn refused(alloc: Global, at: u32, kind: SyntaxKind) -> Outcome
 }
 
 // What comes of a source that is printed as it is.
-fn printed(alloc: Global, source: &[u8]) -> Result<Outcome, AllocError>
-    ensures { IfOk result (λ o. (o.answer ≡ RowAnswer.Unmodified) × (o.text.items ≡ source.now)) }
+fn printed(source: Source) -> Outcome
+    ensures answer { result.answer ≡ RowAnswer.Unmodified }
+    ensures text { result.text.items ≡ source }
 {
-    let answer = RowAnswer::Unmodified;
-    let text = source.to_vec(alloc)?;
-    Ok(Outcome { answer, text })
+    Outcome {
+        answer: RowAnswer::Unmodified,
+        text: source.into_bytes(),
+    }
 }
 
 // What comes of a source that is a tree of the first grammar.
 fn of_first(
     alloc: Global,
-    source: &[u8],
+    source: Source,
     parsed: &Parsed,
     change: &Transform,
 ) -> Result<Outcome, AllocError>
-    requires source { IsSource source.now }
-    requires tree { IsTreeOf source.now parsed.now.spans (syntax parsed.now.tree) }
-    ensures { IfOk result (λ o. FileAnswer (change_of change.now) source.now o.answer o.text.items) }
+    requires source { IsSource source }
+    requires tree { IsTreeOf source parsed.now.spans (syntax parsed.now.tree) }
+    ensures { IfOk result (λ o. FileAnswer (change_of change.now) source o.answer o.text.items) }
 {
     match change {
-        Transform::Print => printed(alloc, source),
-        Transform::Rename(names) => renamed(alloc, source, parsed, names),
+        Transform::Print => Ok(printed(source)),
+        Transform::Rename(names) => renamed(alloc, source.bytes(), parsed, names),
     }
 }
 
-#[tactic(auto, using(crate::proofs::Refusals::other_refused))]
 // What comes of another source.
-fn of_other(alloc: Global, source: &Source, change: &Transform) -> Result<Outcome, AllocError>
-    requires source { IsSource source.now }
-    requires other { IsOther source.now }
-    ensures { IfOk result (λ o. FileAnswer (change_of change.now) source.now o.answer o.text.items) }
+#[tactic(auto, using(crate::proofs::Refusals::other_refused))]
+fn of_other(alloc: Global, source: Source, change: &Transform) -> Result<Outcome, AllocError>
+    requires source { IsSource source }
+    requires other { IsOther source }
+    ensures { IfOk result (λ o. FileAnswer (change_of change.now) source o.answer o.text.items) }
 {
-    let parsed = match js_source::parse(alloc, source) {
+    let parsed = match js_source::parse(alloc, &source) {
         Ok(parsed) => parsed,
         Err(Refusal::Syntax(fault)) => return Ok(refused(alloc, fault.at, fault.kind)),
         Err(Refusal::NoMemory) => return Err(AllocError),
     };
     match change {
-        Transform::Print => printed(alloc, source.bytes()),
-        Transform::Rename(names) => rewritten(alloc, source, &parsed, names),
+        Transform::Print => Ok(printed(source)),
+        Transform::Rename(names) => rewritten(alloc, &source, &parsed, names),
     }
 }
 
 // What comes of a source.
-fn of_source(alloc: Global, source: &Source, change: &Transform) -> Result<Outcome, AllocError>
-    ensures { IfOk result (λ o. FileAnswer (change_of change.now) source.now o.answer o.text.items) }
+fn of_source(alloc: Global, source: Source, change: &Transform) -> Result<Outcome, AllocError>
+    ensures { IfOk result (λ o. FileAnswer (change_of change.now) source o.answer o.text.items) }
 {
-    let bytes = source.bytes();
-    match read_first(alloc, bytes)? {
-        Reading::First(parsed) => of_first(alloc, bytes, &parsed, change),
+    match read_first(alloc, source.bytes())? {
+        Reading::First(parsed) => of_first(alloc, source, &parsed, change),
         Reading::Other => of_other(alloc, source, change),
         Reading::Deep { at } => Ok(refused(alloc, at, SyntaxKind::Nesting)),
     }
@@ -107,7 +108,7 @@ impl<'a> Engine for Transform<'a> {
 
     fn answer(&self, alloc: Global, bytes: Vec<u8>) -> Result<Outcome, AllocError> {
         match Source::new(bytes) {
-            Ok(source) => of_source(alloc, &source, self),
+            Ok(source) => of_source(alloc, source, self),
             Err(TextFault::TooLong { .. }) => Ok(Outcome::error(alloc, RowError::TooLong)),
             Err(TextFault::NotUtf8 { at }) => Ok(Outcome::error(alloc, RowError::NotUtf8 { at })),
         }

@@ -17,9 +17,12 @@ pub type Spans = Items<Span>;
 pub type CommentSpans = Items<Span>;
 
 /// A tree that was read, with the stretches of its nodes by number and of its comments in order.
+///
+/// The fields are dropped in this order: when a large block is freed, many allocators gather the small
+/// ones that were freed before, so the nodes come last.
 #[derive(Drop)]
 pub struct Parsed {
-    pub tree: Tree,
     pub spans: Spans,
     pub comments: CommentSpans,
+    pub tree: Tree,
 }
