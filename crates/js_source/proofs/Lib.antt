@@ -1,4 +1,5 @@
 pub mod LineEnds
 pub mod Nests
 pub mod Numberings
+pub mod Shapes
 pub mod Sums

@@ -2,8 +2,8 @@
 //! the numbers of its nodes and names of its places.
 //!
 //! The reader below gives a tree whose nodes have numbers as they were read. Here each comment is
-//! seated beside a node, and then one walk numbers the nodes in preorder, names the places, and
-//! gives the nodes their comments.
+//! seated beside a node, and then one walk numbers the nodes in preorder, names the places, gives the
+//! nodes their comments, and sees that each node has the fields of its kind.
 #![tactic(auto)]
 
 mod attached;
@@ -13,6 +13,7 @@ mod lines;
 mod numbering;
 mod quasis;
 mod seating;
+mod shape;
 #[cfg(test)]
 mod tests;
 mod waiting;

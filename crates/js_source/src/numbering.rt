@@ -3,6 +3,7 @@
 ghost use Rattle.std.specs.Prelude.{◌≡◌, ◌+◌, ◌<◌, ◌≤◌, [], ◌∷◌, ◌++◌, length, map, IfOk};
 ghost use Rattle.js_lexer.specs.Cursors.{SpanFits, SpansFit};
 ghost use Rattle.js_source.specs.Nested.{Grows, Lies, Nested, PlacesNested, SlotsNested, whole};
+ghost use Rattle.js_source.specs.Shaped.{HasPlaces, InShape, PlacesInShape, SlotsInShape};
 ghost use Rattle.js_source.specs.Sizes.{all_places, place_count, slots_places};
 ghost use Rattle.tree_core.specs.Height.{height, places_height, slots_height};
 ghost use Rattle.tree_core.specs.Numbers.{count, numbered, numbered_places, numbered_slots, places_count, places_length, slots_count};
@@ -10,6 +11,7 @@ ghost use Rattle.tree_core.specs.View.{place_view, places_of, slot_view, slots_o
 
 use crate::attached::{Attached, notes_of};
 use crate::seating::Laid;
+use crate::shape::has_fields;
 use crate::waiting::Waiting;
 use sqlite_items::Items;
 use std::alloc::{AllocError, Global};
@@ -123,6 +125,7 @@ fn number_node(
     ensures nested { IfOk result (λ _. Nested numbers.new.spans outer (syntax tree.new)) }
     ensures places { IfOk result (λ _. numbers.new.places ≡ numbers.old.places + place_count (syntax tree.new)) }
     ensures low { IfOk result (λ _. height (syntax tree.new) ≤ depth) }
+    ensures shaped { IfOk result (λ _. InShape (syntax tree.new)) }
     ensures len { numbers.new.len ≡ numbers.old.len }
 {
     if depth == 0 {
@@ -133,6 +136,9 @@ fn number_node(
     tree.notes = notes_of(given.alloc, given.laid, given.attached, from)?;
     tree.from = Some(parent.number);
     number_slots(given, numbers, waiting, depth - 1, parent, &mut tree.slots)?;
+    if !has_fields(tree) {
+        return Err(AllocError);
+    }
     Ok(())
 }
 
@@ -154,6 +160,7 @@ fn number_slots(
     ensures nested { IfOk result (λ _. SlotsNested numbers.new.spans parent.span (slots_of (map slot_view slots.new))) }
     ensures places { IfOk result (λ _. numbers.new.places ≡ numbers.old.places + slots_places (slots_of (map slot_view slots.new))) }
     ensures low { IfOk result (λ _. slots_height (slots_of (map slot_view slots.new)) ≤ depth) }
+    ensures shaped { IfOk result (λ _. SlotsInShape (slots_of (map slot_view slots.new))) }
     ensures len { numbers.new.len ≡ numbers.old.len }
 {
     let count = slots.len();
@@ -189,6 +196,8 @@ fn number_slot(
     ensures nested { IfOk result (λ _. PlacesNested numbers.new.spans parent.span (slot_view slot.new).1) }
     ensures places { IfOk result (λ _. numbers.new.places ≡ numbers.old.places + all_places (slot_view slot.new).1) }
     ensures low { IfOk result (λ _. places_height (slot_view slot.new).1 ≤ depth) }
+    ensures single { IfOk result (λ _. HasPlaces (slot_view slot.new).0 (slot_view slot.new).1) }
+    ensures shaped { IfOk result (λ _. PlacesInShape (slot_view slot.new).1) }
     ensures len { numbers.new.len ≡ numbers.old.len }
 {
     match slot {
@@ -222,6 +231,7 @@ fn number_places(
     ensures nested { IfOk result (λ _. PlacesNested numbers.new.spans parent.span (places_of (map place_view places.new))) }
     ensures places { IfOk result (λ _. numbers.new.places ≡ numbers.old.places + all_places (places_of (map place_view places.new))) }
     ensures low { IfOk result (λ _. places_height (places_of (map place_view places.new)) ≤ depth) }
+    ensures shaped { IfOk result (λ _. PlacesInShape (places_of (map place_view places.new))) }
     ensures len { numbers.new.len ≡ numbers.old.len }
 {
     let count = places.len();
@@ -257,6 +267,7 @@ fn number_place(
     ensures nested { IfOk result (λ _. PlacesNested numbers.new.spans parent.span (places_of (place_view place.new ∷ []))) }
     ensures places { IfOk result (λ _. numbers.new.places ≡ numbers.old.places + all_places (places_of (place_view place.new ∷ []))) }
     ensures low { IfOk result (λ _. places_height (places_of (place_view place.new ∷ [])) ≤ depth) }
+    ensures shaped { IfOk result (λ _. PlacesInShape (places_of (place_view place.new ∷ []))) }
     ensures len { numbers.new.len ≡ numbers.old.len }
 {
     numbers.count_place()?;
@@ -279,6 +290,7 @@ pub fn number(given: &Given<'_>, tree: Tree, levels: u32) -> Result<(Tree, Spans
     ensures few { IfOk result (λ r. count (syntax r.0) ≤ 4194304) }
     ensures places { IfOk result (λ r. 1 + place_count (syntax r.0) ≤ 67108864) }
     ensures low { IfOk result (λ r. height (syntax r.0) ≤ levels) }
+    ensures shaped { IfOk result (λ r. InShape (syntax r.0)) }
 {
     let len = given.laid.source.bytes().len() as u32;
     let mut numbers = Numbering {

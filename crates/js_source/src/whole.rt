@@ -7,6 +7,7 @@ ghost use Rattle.tree_core.specs.View.{syntax};
 ghost use Rattle.js_lexer.specs.Cursors.{SpansFit};
 ghost use Rattle.js_parser.specs.Refusals.{RefusedWithin};
 ghost use Rattle.js_source.specs.Nested.{Nested, whole};
+ghost use Rattle.js_source.specs.Shaped.{InShape};
 ghost use Rattle.js_source.specs.Sizes.{place_count};
 
 use crate::attached::Attached;
@@ -37,6 +38,7 @@ fn numbered_tree(alloc: Global, laid: Laid<'_>, tree: Tree) -> Result<(Tree, Spa
     ensures few { IfOk result (λ r. count (syntax r.0) ≤ 4194304) }
     ensures places { IfOk result (λ r. 1 + place_count (syntax r.0) ≤ 67108864) }
     ensures low { IfOk result (λ r. height (syntax r.0) ≤ 1000) }
+    ensures shaped { IfOk result (λ r. InShape (syntax r.0)) }
     ensures numbers { IfOk result (λ r. syntax r.0 ≡ numbered 0 (syntax r.0)) }
     ensures nested { IfOk result (λ r. Nested r.1 (whole (length laid.entry.source.now)) (syntax r.0)) }
 {
@@ -65,6 +67,7 @@ pub fn parse(alloc: Global, source: &Source) -> Result<Parsed, Refusal>
     ensures nodes { IfOk result (λ parsed. count (syntax parsed.tree) ≤ 4194304) }
     ensures places { IfOk result (λ parsed. 1 + place_count (syntax parsed.tree) ≤ 67108864) }
     ensures low { IfOk result (λ parsed. height (syntax parsed.tree) ≤ 1000) }
+    ensures shaped { IfOk result (λ parsed. InShape (syntax parsed.tree)) }
 {
     let text = source.bytes();
     let front = front_of(alloc, text)?;

@@ -7,6 +7,7 @@ use Rattle.js_source.specs.Nested.{Grows}
 use Rattle.js_source.specs.Sizes.{slots_places, all_places}
 use Rattle.js_source.proofs.Nests.{grows_on, slots_kept, places_kept, node_nested}
 use Rattle.js_source.proofs.Numberings.{slots_length, slots_length-push, places_length-push, slots_numbered-push, places_numbered-push, slots_nested-push, places_nested-push}
+use Rattle.js_source.proofs.Shapes.{slots_shaped-push, places_shaped-push}
 use Rattle.js_source.proofs.Sums.{slots_nodes-push, slots_places-push, slots_low-push, places_nodes-push, all_places-push, places_low-push}
 use Rattle.js_source.proofs.numbering.+numbering.Goals as goal
 
@@ -46,6 +47,7 @@ number_slots-loop-turn-preserved t c =
       nested = slots_nested-push after parent.span slots all slot e (slots_kept before after s.grows parent.span parent.number 0 (length start) (slots_of (map slot_view slots)) i.numbers few i.nested) s.nested;
       places = omega (arith, places_more, s.places, i.places);
       low = slots_low-push slots all slot c.args.depth e i.low s.low;
+      shaped = slots_shaped-push slots all slot e i.shaped s.single s.shaped;
       len = s.len ∙ i.len;
     }
 
@@ -74,5 +76,6 @@ number_places-loop-turn-preserved t c =
       nested = places_nested-push after parent.span places all place e (places_kept before after s.grows parent.span parent.number first (length start) (places_of (map place_view places)) i.numbers few i.nested) s.nested;
       places = omega (arith, places_more, s.places, i.places);
       low = places_low-push places all place c.args.depth e i.low s.low;
+      shaped = places_shaped-push places all place e i.shaped s.shaped;
       len = s.len ∙ i.len;
     }

@@ -3,6 +3,7 @@ use Rattle.tree_core.specs.Height.{slots_height, places_height}
 use Rattle.tree_core.specs.Numbers.{slots_count, places_count, places_length, numbered_slots, numbered_places}
 use Rattle.tree_core.specs.View.{slot_view, place_view, slots_of, places_of}
 use Rattle.js_source.specs.Nested.{Grows, SlotsNested, PlacesNested}
+use Rattle.js_source.specs.Shaped.{SlotsInShape, PlacesInShape}
 use Rattle.js_source.specs.Sizes.{slots_places, all_places}
 use Rattle.js_source.proofs.Numberings.{slots_length}
 use Rattle.js_source.proofs.numbering.+numbering.Given as goal
@@ -31,6 +32,7 @@ invariant-number_slots-loop-turn l = record {
   nested : SlotsNested l.numbers.spans l.parent.span (slots_of (map slot_view l.slots));
   places : l.numbers.places ≡ l.fn.numbers.places + slots_places (slots_of (map slot_view l.slots));
   low : slots_height (slots_of (map slot_view l.slots)) ≤ l.depth;
+  shaped : SlotsInShape (slots_of (map slot_view l.slots));
   len : l.numbers.len ≡ l.fn.numbers.len;
 }
 
@@ -43,5 +45,6 @@ invariant-number_places-loop-turn l = record {
   nested : PlacesNested l.numbers.spans l.parent.span (places_of (map place_view l.places));
   places : l.numbers.places ≡ l.fn.numbers.places + all_places (places_of (map place_view l.places));
   low : places_height (places_of (map place_view l.places)) ≤ l.depth;
+  shaped : PlacesInShape (places_of (map place_view l.places));
   len : l.numbers.len ≡ l.fn.numbers.len;
 }
