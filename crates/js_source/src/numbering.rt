@@ -1,7 +1,12 @@
 //! Numbers the nodes of a tree in preorder, names its places, and gives its nodes their comments.
+//!
+//! The reader gives no tree that is higher than its limit, and none with a node that lacks a field of
+//! its kind or has one too many. Here such a tree would be refused at the start of the node, as one
+//! with too many nodes or places would.
 
-ghost use Rattle.std.specs.Prelude.{◌≡◌, ◌+◌, ◌<◌, ◌≤◌, [], ◌∷◌, ◌++◌, length, map, IfOk};
+ghost use Rattle.std.specs.Prelude.{◌≡◌, ◌+◌, ◌<◌, ◌≤◌, [], ◌∷◌, ◌++◌, length, map, IfErr, IfOk};
 ghost use Rattle.js_lexer.specs.Cursors.{SpanFits, SpansFit};
+ghost use Rattle.js_parser.specs.Refusals.{RefusedWithin};
 ghost use Rattle.js_source.specs.Nested.{Grows, Lies, Nested, PlacesNested, SlotsNested, whole};
 ghost use Rattle.js_source.specs.Shaped.{HasPlaces, InShape, PlacesInShape, SlotsInShape};
 ghost use Rattle.js_source.specs.Sizes.{all_places, place_count, slots_places};
@@ -13,8 +18,9 @@ use crate::attached::{Attached, notes_of};
 use crate::seating::Laid;
 use crate::shape::has_fields;
 use crate::waiting::Waiting;
+use js_lexer::{Refusal, SyntaxFault, SyntaxKind};
 use sqlite_items::Items;
-use std::alloc::{AllocError, Global};
+use std::alloc::Global;
 use tree_core::{Place, PlaceName, Slot, Span, Spans, Tree};
 
 /// The most nodes that are numbered.
@@ -61,53 +67,64 @@ fn within(span: Span, outer: Span) -> Span
     }
 }
 
-fn next_child(child: u32) -> Result<u32, AllocError>
-    ensures { IfOk result (λ next. next ≡ child + 1) }
+// The refusal at the start of the stretch.
+fn refusal_at(span: Span, kind: SyntaxKind) -> Refusal
+    requires { span.start ≤ span.end }
+    ensures { RefusedWithin span.end result }
+{
+    Refusal::Syntax(SyntaxFault {
+        at: span.start,
+        kind,
+    })
+}
+
+// The child behind this one of the parent.
+fn next_child(parent: Parent, child: u32) -> Result<u32, Refusal>
+    requires { parent.span.start ≤ parent.span.end }
+    ensures next { IfOk result (λ next. next ≡ child + 1) }
+    ensures refused { IfErr result (RefusedWithin parent.span.end) }
 {
     if child == u32::MAX {
-        return Err(AllocError);
+        return Err(refusal_at(parent.span, SyntaxKind::Unexpected));
     }
     Ok(child + 1)
 }
 
 impl Numbering {
     // The next number, for a node with this stretch.
-    fn give(&mut self, span: Span, outer: Span) -> Result<Parent, AllocError>
-        requires outer { SpanFits self.old.len outer }
-        ensures number { IfOk result (λ given. given.number ≡ length self.old.spans) }
-        ensures spans { IfOk result (λ given. self.new.spans ≡ self.old.spans ++ given.span ∷ []) }
-        ensures lies { IfOk result (λ given. Lies outer given.span) }
+    fn give(&mut self, span: Span) -> Result<u32, Refusal>
+        requires { SpanFits self.old.len span }
+        ensures number { IfOk result (λ number. number ≡ length self.old.spans) }
+        ensures spans { IfOk result (λ _. self.new.spans ≡ self.old.spans ++ span ∷ []) }
         ensures places { self.new.places ≡ self.old.places }
         ensures len { self.new.len ≡ self.old.len }
+        ensures refused { IfErr result (RefusedWithin span.end) }
     {
         let number = self.spans.len();
         if number >= MOST_NODES {
-            return Err(AllocError);
+            return Err(refusal_at(span, SyntaxKind::Unexpected));
         }
-        let span = within(span, outer);
         self.spans.push(span)?;
-        Ok(Parent {
-            number: number as u32,
-            span,
-        })
+        Ok(number as u32)
     }
 
-    // Counts one more place.
-    fn count_place(&mut self) -> Result<(), AllocError>
+    // Counts one more place of the parent.
+    fn count_place(&mut self, parent: Parent) -> Result<(), Refusal>
+        requires { parent.span.start ≤ parent.span.end }
         ensures one { IfOk result (λ _. self.new.places ≡ self.old.places + 1) }
         ensures spans { self.new.spans ≡ self.old.spans }
         ensures len { self.new.len ≡ self.old.len }
+        ensures refused { IfErr result (RefusedWithin parent.span.end) }
     {
         if self.places >= MOST_PLACES - 1 {
-            return Err(AllocError);
+            return Err(refusal_at(parent.span, SyntaxKind::Unexpected));
         }
         self.places += 1;
         Ok(())
     }
 }
 
-// The node with all below it, with no more than `depth` levels. The reader gives no tree that is
-// higher than its limit.
+// The node with all below it, with no more than `depth` levels.
 #[cycle(numbering)]
 #[inline(never)]
 fn number_node(
@@ -117,7 +134,7 @@ fn number_node(
     depth: u32,
     outer: Span,
     tree: &mut Tree,
-) -> Result<(), AllocError>
+) -> Result<(), Refusal>
     requires outer { SpanFits numbers.old.len outer }
     ensures numbers { IfOk result (λ _. syntax tree.new ≡ numbered (length numbers.old.spans) (syntax tree.new)) }
     ensures nodes { IfOk result (λ _. length numbers.new.spans ≡ length numbers.old.spans + count (syntax tree.new)) }
@@ -127,17 +144,20 @@ fn number_node(
     ensures low { IfOk result (λ _. height (syntax tree.new) ≤ depth) }
     ensures shaped { IfOk result (λ _. InShape (syntax tree.new)) }
     ensures len { numbers.new.len ≡ numbers.old.len }
+    ensures refused { IfErr result (RefusedWithin outer.end) }
 {
-    if depth == 0 {
-        return Err(AllocError);
-    }
     let from = tree.from;
-    let parent = numbers.give(given.laid.span_of(from), outer)?;
+    let span = within(given.laid.span_of(from), outer);
+    if depth == 0 {
+        return Err(refusal_at(span, SyntaxKind::Nesting));
+    }
+    let number = numbers.give(span)?;
+    let parent = Parent { number, span };
     tree.notes = notes_of(given.alloc, given.laid, given.attached, from)?;
     tree.from = Some(parent.number);
     number_slots(given, numbers, waiting, depth - 1, parent, &mut tree.slots)?;
     if !has_fields(tree) {
-        return Err(AllocError);
+        return Err(refusal_at(span, SyntaxKind::Unexpected));
     }
     Ok(())
 }
@@ -152,7 +172,7 @@ fn number_slots(
     depth: u32,
     parent: Parent,
     slots: &mut Items<Slot>,
-) -> Result<(), AllocError>
+) -> Result<(), Refusal>
     requires outer { SpanFits numbers.old.len parent.span }
     ensures numbers { IfOk result (λ _. slots_of (map slot_view slots.new) ≡ numbered_slots parent.number 0 (length numbers.old.spans) (slots_of (map slot_view slots.new))) }
     ensures nodes { IfOk result (λ _. length numbers.new.spans ≡ length numbers.old.spans + slots_count (slots_of (map slot_view slots.new))) }
@@ -162,6 +182,7 @@ fn number_slots(
     ensures low { IfOk result (λ _. slots_height (slots_of (map slot_view slots.new)) ≤ depth) }
     ensures shaped { IfOk result (λ _. SlotsInShape (slots_of (map slot_view slots.new))) }
     ensures len { numbers.new.len ≡ numbers.old.len }
+    ensures refused { IfErr result (RefusedWithin parent.span.end) }
 {
     let count = slots.len();
     waiting.take_slots(slots)?;
@@ -187,7 +208,7 @@ fn number_slot(
     parent: Parent,
     child: u32,
     slot: &mut Slot,
-) -> Result<u32, AllocError>
+) -> Result<u32, Refusal>
     requires outer { SpanFits numbers.old.len parent.span }
     ensures child { IfOk result (λ next. next ≡ child + places_length (slot_view slot.new).1) }
     ensures numbers { IfOk result (λ _. (slot_view slot.new).1 ≡ numbered_places parent.number child (length numbers.old.spans) (slot_view slot.new).1) }
@@ -199,11 +220,12 @@ fn number_slot(
     ensures single { IfOk result (λ _. HasPlaces (slot_view slot.new).0 (slot_view slot.new).1) }
     ensures shaped { IfOk result (λ _. PlacesInShape (slot_view slot.new).1) }
     ensures len { numbers.new.len ≡ numbers.old.len }
+    ensures refused { IfErr result (RefusedWithin parent.span.end) }
 {
     match slot {
         Slot::Single(place) => {
             number_place(given, numbers, waiting, depth, parent, child, place)?;
-            next_child(child)
+            next_child(parent, child)
         }
         Slot::List(places) => {
             number_places(given, numbers, waiting, depth, parent, child, places)
@@ -222,7 +244,7 @@ fn number_places(
     parent: Parent,
     first: u32,
     places: &mut Items<Place>,
-) -> Result<u32, AllocError>
+) -> Result<u32, Refusal>
     requires outer { SpanFits numbers.old.len parent.span }
     ensures child { IfOk result (λ next. next ≡ first + places_length (places_of (map place_view places.new))) }
     ensures numbers { IfOk result (λ _. places_of (map place_view places.new) ≡ numbered_places parent.number first (length numbers.old.spans) (places_of (map place_view places.new))) }
@@ -233,6 +255,7 @@ fn number_places(
     ensures low { IfOk result (λ _. places_height (places_of (map place_view places.new)) ≤ depth) }
     ensures shaped { IfOk result (λ _. PlacesInShape (places_of (map place_view places.new))) }
     ensures len { numbers.new.len ≡ numbers.old.len }
+    ensures refused { IfErr result (RefusedWithin parent.span.end) }
 {
     let count = places.len();
     waiting.take_places(places)?;
@@ -244,7 +267,7 @@ fn number_places(
         let mut place = place;
         number_place(given, numbers, waiting, depth, parent, child, &mut place)?;
         places.push(place)?;
-        child = next_child(child)?;
+        child = next_child(parent, child)?;
     }
     Ok(child)
 }
@@ -259,7 +282,7 @@ fn number_place(
     parent: Parent,
     child: u32,
     place: &mut Place,
-) -> Result<(), AllocError>
+) -> Result<(), Refusal>
     requires outer { SpanFits numbers.old.len parent.span }
     ensures numbers { IfOk result (λ _. places_of (place_view place.new ∷ []) ≡ numbered_places parent.number child (length numbers.old.spans) (places_of (place_view place.new ∷ []))) }
     ensures nodes { IfOk result (λ _. length numbers.new.spans ≡ length numbers.old.spans + places_count (places_of (place_view place.new ∷ []))) }
@@ -269,8 +292,9 @@ fn number_place(
     ensures low { IfOk result (λ _. places_height (places_of (place_view place.new ∷ [])) ≤ depth) }
     ensures shaped { IfOk result (λ _. PlacesInShape (places_of (place_view place.new ∷ []))) }
     ensures len { numbers.new.len ≡ numbers.old.len }
+    ensures refused { IfErr result (RefusedWithin parent.span.end) }
 {
-    numbers.count_place()?;
+    numbers.count_place(parent)?;
     place.name = Some(PlaceName {
         node: parent.number,
         child,
@@ -282,7 +306,7 @@ fn number_place(
 }
 
 /// The tree with its nodes numbered, and their stretches by their new numbers.
-pub fn number(given: &Given<'_>, tree: Tree, levels: u32) -> Result<(Tree, Spans), AllocError>
+pub fn number(given: &Given<'_>, tree: Tree, levels: u32) -> Result<(Tree, Spans), Refusal>
     ensures fit { IfOk result (λ r. SpansFit (length given.now.laid.source.now) r.1) }
     ensures numbers { IfOk result (λ r. syntax r.0 ≡ numbered 0 (syntax r.0)) }
     ensures nested { IfOk result (λ r. Nested r.1 (whole (length given.now.laid.source.now)) (syntax r.0)) }
@@ -291,6 +315,7 @@ pub fn number(given: &Given<'_>, tree: Tree, levels: u32) -> Result<(Tree, Spans
     ensures places { IfOk result (λ r. 1 + place_count (syntax r.0) ≤ 67108864) }
     ensures low { IfOk result (λ r. height (syntax r.0) ≤ levels) }
     ensures shaped { IfOk result (λ r. InShape (syntax r.0)) }
+    ensures refused { IfErr result (RefusedWithin (length given.now.laid.source.now)) }
 {
     let len = given.laid.source.bytes().len() as u32;
     let mut numbers = Numbering {

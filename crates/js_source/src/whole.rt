@@ -32,7 +32,8 @@ fn attached(alloc: Global, laid: Laid<'_>, tree: &Tree) -> Result<Attached, Allo
 }
 
 // The tree with its numbers, place names and comments, and the stretches of its nodes by number.
-fn numbered_tree(alloc: Global, laid: Laid<'_>, tree: Tree) -> Result<(Tree, Spans), AllocError>
+fn numbered_tree(alloc: Global, laid: Laid<'_>, tree: Tree) -> Result<(Tree, Spans), Refusal>
+    ensures refused { IfErr result (RefusedWithin (length laid.entry.source.now)) }
     ensures fit { IfOk result (λ r. SpansFit (length laid.entry.source.now) r.1) }
     ensures nodes { IfOk result (λ r. length r.1 ≡ count (syntax r.0)) }
     ensures few { IfOk result (λ r. count (syntax r.0) ≤ 4194304) }
@@ -56,7 +57,8 @@ fn numbered_tree(alloc: Global, laid: Laid<'_>, tree: Tree) -> Result<(Tree, Spa
 /// Nodes are numbered in preorder from 0, the places of a node in the order of its slots. The
 /// stretch of the program is the whole text, that of a template's characters has no marks in it. A
 /// first line that begins with `#!`, perhaps behind U+FEFF, is the program's interpreter (ECMA-262,
-/// 14th edition, clause 12.5). A refusal names the byte offset of a token, or is for want of memory.
+/// 14th edition, clause 12.5). A refusal names the byte offset of a token or of a node's
+/// start, or is for want of memory.
 pub fn parse(alloc: Global, source: &Source) -> Result<Parsed, Refusal>
     ensures refused { IfErr result (RefusedWithin (length source.now)) }
     ensures spans { IfOk result (λ parsed. length parsed.spans ≡ count (syntax parsed.tree)) }

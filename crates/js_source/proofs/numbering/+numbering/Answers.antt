@@ -15,12 +15,13 @@ pub number_node-returns-clause-nested : goal.number_node-returns-clause-nested
 number_node-returns-clause-nested t c =
     let start = c.args.numbers.now.spans in
     let end = c.number_slots.new.numbers.spans in
-    let given = c.in_ok-parent.parent in
+    let number = c.in_ok-number.number in
+    let span = c.within-span.result in
     let tree = c.args.tree.now in
-    node_nested _ tree.kind tree.scalars (slots_of (map slot_view c.number_slots.new.slots)) c.in_ok-tree.field-0 start end c.args.outer given.span given.number
-    (fold-roll-Tree Row Spot Syntax slot_step place_step tree_step (record { kind = tree.kind; scalars = tree.scalars; slots = c.number_slots.new.slots; notes = c.in_ok-tree.field-0; from = Some given.number }))
-    c.in_ok-parent.ensures.number
-    (subst (λ z. Grows z end) c.in_ok-parent.ensures.spans c.in_ok-number_slots.ensures.grows) c.in_ok-parent.ensures.lies c.in_ok-number_slots.ensures.nested
+    node_nested _ tree.kind tree.scalars (slots_of (map slot_view c.number_slots.new.slots)) c.in_ok-tree.field-0 start end c.args.outer span number
+    (fold-roll-Tree Row Spot Syntax slot_step place_step tree_step (record { kind = tree.kind; scalars = tree.scalars; slots = c.number_slots.new.slots; notes = c.in_ok-tree.field-0; from = Some number }))
+    c.in_ok-number.ensures.number
+    (subst (λ z. Grows z end) c.in_ok-number.ensures.spans c.in_ok-number_slots.ensures.grows) c.within-span.ensures c.in_ok-number_slots.ensures.nested
 
 pub number_slots-loop-turn-preserved : goal.number_slots-loop-turn-preserved
 number_slots-loop-turn-preserved t c =
@@ -69,7 +70,7 @@ number_places-loop-turn-preserved t c =
     let places_more : all_places (places_of (map place_view all)) ≡ all_places (places_of (map place_view places)) + all_places (places_of (place_view place ∷ [])) = all_places-push places all place e in
     let few : length start + places_count (places_of (map place_view places)) ≤ length before = omega (arith, i.nodes) in
     record {
-      child = omega (arith, length_more, c.in_ok-child.ensures, i.child);
+      child = omega (arith, length_more, c.in_ok-child.ensures.next, i.child);
       numbers = places_numbered-push parent.number first c.loop-turn.child (length start) (length before) places all place e i.child i.nodes i.numbers s.numbers;
       nodes = omega (arith, nodes_more, s.nodes, i.nodes);
       grows = grows_on start before after i.grows s.grows;
