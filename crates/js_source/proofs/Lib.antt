@@ -1,3 +1,4 @@
+pub mod LeafNodes
 pub mod LineEnds
 pub mod Nests
 pub mod Numberings

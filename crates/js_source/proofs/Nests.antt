@@ -25,7 +25,7 @@ got_before [] more n h = absurd (omega arith)
 got_before (x ∷ a) more zero h = refl
 got_before (x ∷ a) more (suc n) h = got_before a more n (omega arith)
 
-span_kept : (a b : List Span) (n : ℕ) → Grows a b → n < length a → span_of b (Some n) ≡ span_of a (Some n)
+pub span_kept : (a b : List Span) (n : ℕ) → Grows a b → n < length a → span_of b (Some n) ≡ span_of a (Some n)
 span_kept a b n g h = ap (λ z. unwrap_or (slice_get z n) nowhere) g ∙ ap (λ z. unwrap_or z nowhere) (got_before a (drop (length a) b) n h)
 
 got_last : (a : List Span) (x : Span) → slice_get (a ++ x ∷ []) (length a) ≡ Some x

@@ -3,7 +3,8 @@
 //!
 //! The reader below gives a tree whose nodes have numbers as they were read. Here each comment is
 //! seated beside a node, and then one walk numbers the nodes in preorder, names the places, gives the
-//! nodes their comments, and sees that each node has the fields of its kind.
+//! nodes their comments, and sees that each node has the fields of its kind and that the source spells
+//! each leaf, a node without slots, at its stretch.
 #![tactic(auto)]
 
 mod attached;

@@ -1,12 +1,13 @@
 //! Numbers the nodes of a tree in preorder, names its places, and gives its nodes their comments.
 //!
 //! The reader gives no tree that is higher than its limit, and none with a node that lacks a field of
-//! its kind or has one too many. Here such a tree would be refused at the start of the node, as one
-//! with too many nodes or places would.
+//! its kind or has one too many, or with a leaf that the source does not spell. Here such a tree would
+//! be refused at the start of the node, as one with too many nodes or places would.
 
 ghost use Rattle.std.specs.Prelude.{◌≡◌, ◌+◌, ◌<◌, ◌≤◌, [], ◌∷◌, ◌++◌, length, map, IfErr, IfOk};
 ghost use Rattle.js_lexer.specs.Cursors.{SpanFits, SpansFit};
 ghost use Rattle.js_parser.specs.Refusals.{RefusedWithin};
+ghost use Rattle.js_source.specs.Leaves.{LeavesSpelled, PlacesSpelled, SlotsSpelled};
 ghost use Rattle.js_source.specs.Nested.{Grows, Lies, Nested, PlacesNested, SlotsNested, whole};
 ghost use Rattle.js_source.specs.Shaped.{HasPlaces, InShape, PlacesInShape, SlotsInShape};
 ghost use Rattle.js_source.specs.Sizes.{all_places, place_count, slots_places};
@@ -19,6 +20,7 @@ use crate::seating::Laid;
 use crate::shape::has_fields;
 use crate::waiting::Waiting;
 use js_lexer::{Refusal, SyntaxFault, SyntaxKind};
+use leaf_spellings::is_spelled;
 use sqlite_items::Items;
 use std::alloc::Global;
 use tree_core::{Place, PlaceName, Slot, Span, Spans, Tree};
@@ -136,6 +138,7 @@ fn number_node(
     tree: &mut Tree,
 ) -> Result<(), Refusal>
     requires outer { SpanFits numbers.old.len outer }
+    requires whole { numbers.old.len ≡ length given.now.laid.source.now }
     ensures numbers { IfOk result (λ _. syntax tree.new ≡ numbered (length numbers.old.spans) (syntax tree.new)) }
     ensures nodes { IfOk result (λ _. length numbers.new.spans ≡ length numbers.old.spans + count (syntax tree.new)) }
     ensures grows { IfOk result (λ _. Grows numbers.old.spans numbers.new.spans) }
@@ -143,6 +146,7 @@ fn number_node(
     ensures places { IfOk result (λ _. numbers.new.places ≡ numbers.old.places + place_count (syntax tree.new)) }
     ensures low { IfOk result (λ _. height (syntax tree.new) ≤ depth) }
     ensures shaped { IfOk result (λ _. InShape (syntax tree.new)) }
+    ensures leaves { IfOk result (λ _. LeavesSpelled given.now.laid.source.now numbers.new.spans (syntax tree.new)) }
     ensures len { numbers.new.len ≡ numbers.old.len }
     ensures refused { IfErr result (RefusedWithin outer.end) }
 {
@@ -156,7 +160,7 @@ fn number_node(
     tree.notes = notes_of(given.alloc, given.laid, given.attached, from)?;
     tree.from = Some(parent.number);
     number_slots(given, numbers, waiting, depth - 1, parent, &mut tree.slots)?;
-    if !has_fields(tree) {
+    if !has_fields(tree) || !is_spelled(given.alloc, given.laid.source, span, tree)? {
         return Err(refusal_at(span, SyntaxKind::Unexpected));
     }
     Ok(())
@@ -174,6 +178,7 @@ fn number_slots(
     slots: &mut Items<Slot>,
 ) -> Result<(), Refusal>
     requires outer { SpanFits numbers.old.len parent.span }
+    requires whole { numbers.old.len ≡ length given.now.laid.source.now }
     ensures numbers { IfOk result (λ _. slots_of (map slot_view slots.new) ≡ numbered_slots parent.number 0 (length numbers.old.spans) (slots_of (map slot_view slots.new))) }
     ensures nodes { IfOk result (λ _. length numbers.new.spans ≡ length numbers.old.spans + slots_count (slots_of (map slot_view slots.new))) }
     ensures grows { IfOk result (λ _. Grows numbers.old.spans numbers.new.spans) }
@@ -181,6 +186,7 @@ fn number_slots(
     ensures places { IfOk result (λ _. numbers.new.places ≡ numbers.old.places + slots_places (slots_of (map slot_view slots.new))) }
     ensures low { IfOk result (λ _. slots_height (slots_of (map slot_view slots.new)) ≤ depth) }
     ensures shaped { IfOk result (λ _. SlotsInShape (slots_of (map slot_view slots.new))) }
+    ensures leaves { IfOk result (λ _. SlotsSpelled given.now.laid.source.now numbers.new.spans (slots_of (map slot_view slots.new))) }
     ensures len { numbers.new.len ≡ numbers.old.len }
     ensures refused { IfErr result (RefusedWithin parent.span.end) }
 {
@@ -210,6 +216,7 @@ fn number_slot(
     slot: &mut Slot,
 ) -> Result<u32, Refusal>
     requires outer { SpanFits numbers.old.len parent.span }
+    requires whole { numbers.old.len ≡ length given.now.laid.source.now }
     ensures child { IfOk result (λ next. next ≡ child + places_length (slot_view slot.new).1) }
     ensures numbers { IfOk result (λ _. (slot_view slot.new).1 ≡ numbered_places parent.number child (length numbers.old.spans) (slot_view slot.new).1) }
     ensures nodes { IfOk result (λ _. length numbers.new.spans ≡ length numbers.old.spans + places_count (slot_view slot.new).1) }
@@ -219,6 +226,7 @@ fn number_slot(
     ensures low { IfOk result (λ _. places_height (slot_view slot.new).1 ≤ depth) }
     ensures single { IfOk result (λ _. HasPlaces (slot_view slot.new).0 (slot_view slot.new).1) }
     ensures shaped { IfOk result (λ _. PlacesInShape (slot_view slot.new).1) }
+    ensures leaves { IfOk result (λ _. PlacesSpelled given.now.laid.source.now numbers.new.spans (slot_view slot.new).1) }
     ensures len { numbers.new.len ≡ numbers.old.len }
     ensures refused { IfErr result (RefusedWithin parent.span.end) }
 {
@@ -246,6 +254,7 @@ fn number_places(
     places: &mut Items<Place>,
 ) -> Result<u32, Refusal>
     requires outer { SpanFits numbers.old.len parent.span }
+    requires whole { numbers.old.len ≡ length given.now.laid.source.now }
     ensures child { IfOk result (λ next. next ≡ first + places_length (places_of (map place_view places.new))) }
     ensures numbers { IfOk result (λ _. places_of (map place_view places.new) ≡ numbered_places parent.number first (length numbers.old.spans) (places_of (map place_view places.new))) }
     ensures nodes { IfOk result (λ _. length numbers.new.spans ≡ length numbers.old.spans + places_count (places_of (map place_view places.new))) }
@@ -254,6 +263,7 @@ fn number_places(
     ensures places { IfOk result (λ _. numbers.new.places ≡ numbers.old.places + all_places (places_of (map place_view places.new))) }
     ensures low { IfOk result (λ _. places_height (places_of (map place_view places.new)) ≤ depth) }
     ensures shaped { IfOk result (λ _. PlacesInShape (places_of (map place_view places.new))) }
+    ensures leaves { IfOk result (λ _. PlacesSpelled given.now.laid.source.now numbers.new.spans (places_of (map place_view places.new))) }
     ensures len { numbers.new.len ≡ numbers.old.len }
     ensures refused { IfErr result (RefusedWithin parent.span.end) }
 {
@@ -284,6 +294,7 @@ fn number_place(
     place: &mut Place,
 ) -> Result<(), Refusal>
     requires outer { SpanFits numbers.old.len parent.span }
+    requires whole { numbers.old.len ≡ length given.now.laid.source.now }
     ensures numbers { IfOk result (λ _. places_of (place_view place.new ∷ []) ≡ numbered_places parent.number child (length numbers.old.spans) (places_of (place_view place.new ∷ []))) }
     ensures nodes { IfOk result (λ _. length numbers.new.spans ≡ length numbers.old.spans + places_count (places_of (place_view place.new ∷ []))) }
     ensures grows { IfOk result (λ _. Grows numbers.old.spans numbers.new.spans) }
@@ -291,6 +302,7 @@ fn number_place(
     ensures places { IfOk result (λ _. numbers.new.places ≡ numbers.old.places + all_places (places_of (place_view place.new ∷ []))) }
     ensures low { IfOk result (λ _. places_height (places_of (place_view place.new ∷ [])) ≤ depth) }
     ensures shaped { IfOk result (λ _. PlacesInShape (places_of (place_view place.new ∷ []))) }
+    ensures leaves { IfOk result (λ _. PlacesSpelled given.now.laid.source.now numbers.new.spans (places_of (place_view place.new ∷ []))) }
     ensures len { numbers.new.len ≡ numbers.old.len }
     ensures refused { IfErr result (RefusedWithin parent.span.end) }
 {
@@ -315,6 +327,7 @@ pub fn number(given: &Given<'_>, tree: Tree, levels: u32) -> Result<(Tree, Spans
     ensures places { IfOk result (λ r. 1 + place_count (syntax r.0) ≤ 67108864) }
     ensures low { IfOk result (λ r. height (syntax r.0) ≤ levels) }
     ensures shaped { IfOk result (λ r. InShape (syntax r.0)) }
+    ensures leaves { IfOk result (λ r. LeavesSpelled given.now.laid.source.now r.1 (syntax r.0)) }
     ensures refused { IfErr result (RefusedWithin (length given.now.laid.source.now)) }
 {
     let len = given.laid.source.bytes().len() as u32;

@@ -6,6 +6,7 @@ ghost use Rattle.tree_core.specs.Numbers.{count, numbered};
 ghost use Rattle.tree_core.specs.View.{syntax};
 ghost use Rattle.js_lexer.specs.Cursors.{SpansFit};
 ghost use Rattle.js_parser.specs.Refusals.{RefusedWithin};
+ghost use Rattle.js_source.specs.Leaves.{LeavesSpelled};
 ghost use Rattle.js_source.specs.Nested.{Nested, whole};
 ghost use Rattle.js_source.specs.Shaped.{InShape};
 ghost use Rattle.js_source.specs.Sizes.{place_count};
@@ -40,6 +41,7 @@ fn numbered_tree(alloc: Global, laid: Laid<'_>, tree: Tree) -> Result<(Tree, Spa
     ensures places { IfOk result (λ r. 1 + place_count (syntax r.0) ≤ 67108864) }
     ensures low { IfOk result (λ r. height (syntax r.0) ≤ 1000) }
     ensures shaped { IfOk result (λ r. InShape (syntax r.0)) }
+    ensures leaves { IfOk result (λ r. LeavesSpelled laid.entry.source.now r.1 (syntax r.0)) }
     ensures numbers { IfOk result (λ r. syntax r.0 ≡ numbered 0 (syntax r.0)) }
     ensures nested { IfOk result (λ r. Nested r.1 (whole (length laid.entry.source.now)) (syntax r.0)) }
 {
@@ -70,6 +72,7 @@ pub fn parse(alloc: Global, source: &Source) -> Result<Parsed, Refusal>
     ensures places { IfOk result (λ parsed. 1 + place_count (syntax parsed.tree) ≤ 67108864) }
     ensures low { IfOk result (λ parsed. height (syntax parsed.tree) ≤ 1000) }
     ensures shaped { IfOk result (λ parsed. InShape (syntax parsed.tree)) }
+    ensures leaves { IfOk result (λ parsed. LeavesSpelled source.now parsed.spans (syntax parsed.tree)) }
 {
     let text = source.bytes();
     let front = front_of(alloc, text)?;

@@ -1,10 +1,11 @@
-use Rattle.std.proofs.Common.{◌≡◌, ◌∙◌, ◌+◌, ◌≤◌, [], ◌∷◌, length, map, subst, arith, Some}
+use Rattle.std.proofs.Common.{◌≡◌, ◌∙◌, ◌+◌, ◌≤◌, [], ◌∷◌, length, map, subst, arith, rules, Some}
 use Rattle.tree_core.specs.Numbers.{slots_count, places_count, places_length}
 use Rattle.tree_core.specs.declared.tree.Tree.{fold-roll-Tree}
 use Rattle.tree_core.specs.Syntax.{Syntax}
 use Rattle.tree_core.specs.View.{Row, Spot, slot_step, place_step, tree_step, slot_view, place_view, slots_of, places_of}
 use Rattle.js_source.specs.Nested.{Grows}
 use Rattle.js_source.specs.Sizes.{slots_places, all_places}
+use Rattle.js_source.proofs.LeafNodes.{node_spelled, slots_spelled_kept, places_spelled_kept, slots_spelled-push, places_spelled-push}
 use Rattle.js_source.proofs.Nests.{grows_on, slots_kept, places_kept, node_nested}
 use Rattle.js_source.proofs.Numberings.{slots_length, slots_length-push, places_length-push, slots_numbered-push, places_numbered-push, slots_nested-push, places_nested-push}
 use Rattle.js_source.proofs.Shapes.{slots_shaped-push, places_shaped-push}
@@ -23,8 +24,19 @@ number_node-returns-clause-nested t c =
     c.in_ok-number.ensures.number
     (subst (λ z. Grows z end) c.in_ok-number.ensures.spans c.in_ok-number_slots.ensures.grows) c.within-span.ensures c.in_ok-number_slots.ensures.nested
 
+pub number_node-returns-clause-leaves : goal.number_node-returns-clause-leaves
+number_node-returns-clause-leaves t c =
+    let end = c.number_slots.new.numbers.spans in
+    let number = c.in_ok-number.number in
+    let tree = c.args.tree.now in
+    node_spelled c.args.given.now.laid.source.now _ tree.kind tree.scalars (slots_of (map slot_view c.number_slots.new.slots)) c.in_ok-tree.field-0 c.args.numbers.now.spans end c.within-span.result number
+    (fold-roll-Tree Row Spot Syntax slot_step place_step tree_step (record { kind = tree.kind; scalars = tree.scalars; slots = c.number_slots.new.slots; notes = c.in_ok-tree.field-0; from = Some number }))
+    c.in_ok-number.ensures.number
+    (subst (λ z. Grows z end) c.in_ok-number.ensures.spans c.in_ok-number_slots.ensures.grows) (c.in_ok-is_spelled.ensures (search rules)) c.in_ok-number_slots.ensures.leaves
+
 pub number_slots-loop-turn-preserved : goal.number_slots-loop-turn-preserved
 number_slots-loop-turn-preserved t c =
+    let text = c.args.given.now.laid.source.now in
     let parent = c.args.parent in
     let start = c.args.numbers.now.spans in
     let before = c.loop-turn.numbers.spans in
@@ -49,11 +61,13 @@ number_slots-loop-turn-preserved t c =
       places = omega (arith, places_more, s.places, i.places);
       low = slots_low-push slots all slot c.args.depth e i.low s.low;
       shaped = slots_shaped-push slots all slot e i.shaped s.single s.shaped;
+      leaves = slots_spelled-push text after slots all slot e (slots_spelled_kept text before after s.grows parent.number 0 (length start) (slots_of (map slot_view slots)) i.numbers few i.leaves) s.leaves;
       len = s.len ∙ i.len;
     }
 
 pub number_places-loop-turn-preserved : goal.number_places-loop-turn-preserved
 number_places-loop-turn-preserved t c =
+    let text = c.args.given.now.laid.source.now in
     let parent = c.args.parent in
     let first = c.args.first in
     let start = c.args.numbers.now.spans in
@@ -78,5 +92,6 @@ number_places-loop-turn-preserved t c =
       places = omega (arith, places_more, s.places, i.places);
       low = places_low-push places all place c.args.depth e i.low s.low;
       shaped = places_shaped-push places all place e i.shaped s.shaped;
+      leaves = places_spelled-push text after places all place e (places_spelled_kept text before after s.grows parent.number first (length start) (places_of (map place_view places)) i.numbers few i.leaves) s.leaves;
       len = s.len ∙ i.len;
     }

@@ -2,6 +2,7 @@ use Rattle.std.proofs.Common.{◌≡◌, ◌≤◌, ◌+◌, ◌*◌, length, ma
 use Rattle.tree_core.specs.Height.{slots_height, places_height}
 use Rattle.tree_core.specs.Numbers.{slots_count, places_count, places_length, numbered_slots, numbered_places}
 use Rattle.tree_core.specs.View.{slot_view, place_view, slots_of, places_of}
+use Rattle.js_source.specs.Leaves.{SlotsSpelled, PlacesSpelled}
 use Rattle.js_source.specs.Nested.{Grows, SlotsNested, PlacesNested}
 use Rattle.js_source.specs.Shaped.{SlotsInShape, PlacesInShape}
 use Rattle.js_source.specs.Sizes.{slots_places, all_places}
@@ -33,6 +34,7 @@ invariant-number_slots-loop-turn l = record {
   places : l.numbers.places ≡ l.fn.numbers.places + slots_places (slots_of (map slot_view l.slots));
   low : slots_height (slots_of (map slot_view l.slots)) ≤ l.depth;
   shaped : SlotsInShape (slots_of (map slot_view l.slots));
+  leaves : SlotsSpelled l.given.laid.source.now l.numbers.spans (slots_of (map slot_view l.slots));
   len : l.numbers.len ≡ l.fn.numbers.len;
 }
 
@@ -46,5 +48,6 @@ invariant-number_places-loop-turn l = record {
   places : l.numbers.places ≡ l.fn.numbers.places + all_places (places_of (map place_view l.places));
   low : places_height (places_of (map place_view l.places)) ≤ l.depth;
   shaped : PlacesInShape (places_of (map place_view l.places));
+  leaves : PlacesSpelled l.given.laid.source.now l.numbers.spans (places_of (map place_view l.places));
   len : l.numbers.len ≡ l.fn.numbers.len;
 }
