@@ -1,3 +1,5 @@
+//! Small trees: their places by address, their height, and copies.
+
 use crate::{Address, Place, Scalar, Scalars, Slot, Tree, Units, at, copy, height, same};
 use sqlite_items::Items;
 use std::alloc::{AllocError, Global};

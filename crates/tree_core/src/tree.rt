@@ -16,7 +16,7 @@ pub struct PlaceName {
     pub child: u32,
 }
 
-/// A node with all below it, after ESTree for ES2020.
+/// A node with all below it, after ESTree.
 #[cycle(tree)]
 #[derive(Drop)]
 pub struct Tree {

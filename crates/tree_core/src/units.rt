@@ -1,6 +1,7 @@
 //! Texts of UTF-16 code units.
 
 ghost use Rattle.std.specs.Prelude.{◌≡◌};
+ghost use Rattle.std.specs.Str.{bytes_eq};
 
 use std::marker::Model;
 
@@ -31,5 +32,21 @@ impl Units {
         ensures { result.now ≡ self.now }
     {
         &self.units
+    }
+
+    /// Whether the code units are, as numbers, these bytes.
+    pub fn is(&self, text: &[u8]) -> bool
+        ensures { result ≡ bytes_eq self.now text.now }
+    {
+        let units = self.get();
+        if units.len() != text.len() {
+            return false;
+        }
+        for at in 0..units.len() {
+            if units[at] != u16::from(text[at]) {
+                return false;
+            }
+        }
+        true
     }
 }
