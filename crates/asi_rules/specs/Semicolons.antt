@@ -1,4 +1,4 @@
--- Missing semicolons (ECMA-262, clause 12.10, with the fields of classes of the 13th edition).
+-- Missing semicolons (ECMA-262, clauses 12.10 and 15.7).
 use Rattle.std.specs.Prelude.{ℕ, Bool, true, false, not, ◌||◌, nat_le}
 use Rattle.js_tokens.specs.declared.punctuator.Punctuator.TheVariants as m
 use Rattle.js_tokens.specs.declared.token.TemplatePart.TheVariants as part

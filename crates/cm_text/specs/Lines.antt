@@ -1,4 +1,4 @@
--- Line ends and the fronts of lines (ECMA-262, clause 11.3), by offsets into a text's bytes.
+-- Line ends and the fronts of lines (ECMA-262, clause 12.3), by offsets into a text's bytes.
 use Rattle.std.specs.Prelude.{ℕ, zero, suc, ◌+◌, ◌-◌, ◌*◌, ◌/◌, ◌==◌, ◌&&◌, Bool, List, [], ◌∷◌, drop, slice_index, Option, Some, None, is_some, if◌then◌else◌}
 use Rattle.cm_text.specs.declared.line_end.LineEnd.{LineEnd}
 use Rattle.cm_text.specs.declared.line_end.LineEnd.TheVariants.{Lf, CrLf, Cr, Ls, Ps}

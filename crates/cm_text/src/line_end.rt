@@ -1,4 +1,4 @@
-//! Line ends (ECMA-262, clause 11.3), told by their last byte.
+//! Line ends (ECMA-262, clause 12.3), told by their last byte.
 
 ghost use Rattle.std.specs.Prelude.{◌≡◌, ◌<◌, length, slice_index};
 ghost use Rattle.cm_text.specs.Lines.{feed_end, return_end, follows_separator_lead, line_end_at};

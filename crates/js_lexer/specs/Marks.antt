@@ -1,5 +1,5 @@
--- Punctuators (ECMA-262, 13th edition, clause 12.8): the longest that stands there. Each function
--- is given the bytes from the punctuator's start to the end of the text.
+-- Punctuators (ECMA-262, clause 12.8): the longest that stands there. Each function is given the
+-- bytes from the punctuator's start to the end of the text.
 use Rattle.std.specs.Prelude.{ℕ, ◌==◌, ◌&&◌, not, List, slice_index, Option, Some, None, if◌then◌else◌}
 use Rattle.std.specs.Option.{option_map_or}
 use Rattle.js_tokens.specs.declared.token.TokenKind.TheVariants as token

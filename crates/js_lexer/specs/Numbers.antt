@@ -1,5 +1,5 @@
--- Number literals (ECMA-262, 13th edition, clauses 12.9.3 and B.1.1). Each function is given the
--- bytes from the number's start to the end of the text.
+-- Number literals (ECMA-262, clause 12.9.3). Each function is given the bytes from the number's start
+-- to the end of the text.
 use Rattle.std.specs.Prelude.{ℕ, ◌+◌, ◌==◌, ◌&&◌, ◌||◌, not, List, drop, slice_index, nat_lt, Result, Ok, Err, if◌then◌else◌}
 use Rattle.js_tokens.specs.declared.token.TokenKind.TheVariants.{Number, BigInt}
 use Rattle.js_lexer.specs.declared.element.Element.{Element}

@@ -225,6 +225,7 @@ impl<'a> Cursor<'a> {
         }
     }
 
+    /// The source that it goes over.
     pub fn source(&self) -> &'a Source
         ensures { result.now ≡ self.now.text }
     {

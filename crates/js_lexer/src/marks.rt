@@ -1,5 +1,5 @@
-//! Punctuators (ECMA-262, 13th edition, clause 12.8): the longest that stands there. Each function
-//! is given the bytes from the punctuator's start to the end of the text.
+//! Punctuators (ECMA-262, clause 12.8): the longest that stands there. Each function is given the
+//! bytes from the punctuator's start to the end of the text.
 
 ghost use Rattle.std.specs.Prelude.{◌≡◌, ◌<◌, ◌≤◌, length, IfSome};
 ghost use Rattle.js_lexer.specs.Marks as spec;

@@ -1,5 +1,5 @@
-//! Number literals (ECMA-262, 13th edition, clauses 12.9.3 and B.1.1). Each function is given the
-//! bytes from the number's start to the end of the text.
+//! Number literals (ECMA-262, clause 12.9.3). Each function is given the bytes from the number's start
+//! to the end of the text.
 
 ghost use Rattle.std.specs.Prelude.{◌≡◌, ◌<◌, ◌≤◌, length, IfOk};
 ghost use Rattle.js_lexer.specs.Numbers as spec;

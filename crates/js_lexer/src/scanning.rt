@@ -74,8 +74,11 @@ pub fn token_at<T: Text>(text: T, gap: Gap, goal: Goal) -> Result<Token, LexFaul
     }
 }
 
-/// The first token at or behind the offset, once blanks and comments are passed. At the end it is
-/// one of the kind `End`. The offset is to be where a character begins.
+/// The first token at or behind the offset, once blanks and comments are passed (ECMA-262, clause
+/// 12). At the end it is one of the kind `End`. The offset is to be where a character begins.
+///
+/// The error is a broken element, at its first byte: a string, template, comment or regular
+/// expression that does not end, a bad escape or number, or a character that begins no element.
 #[tactic(auto, unfolding(crate::specs::Scan::scan))]
 pub fn next(source: &Source, at: u32, goal: Goal) -> Result<Token, LexFault>
     requires { at ≤ length source.now }

@@ -1,5 +1,5 @@
--- What one character or escape spells (ECMA-262, clauses 12.9.4, 12.9.6 and B.1.2). Each function
--- is given the bytes from there to the end, and tells how many of them spell the piece.
+-- What one character or escape spells (ECMA-262, clauses 12.9.4 and 12.9.6). Each function is given
+-- the bytes from there to the end, and tells how many of them spell the piece.
 use Rattle.std.specs.Prelude.{ℕ, ◌+◌, ◌-◌, ◌*◌, ◌^◌, ◌<◌, ◌==◌, ◌&&◌, ◌||◌, not, Bool, List, [], ◌∷◌, length, drop, slice_index, nat_lt, nat_le, Option, Some, None, IfSome, unwrap_or, option_and_then, if◌then◌else◌}
 use Rattle.js_tokens.specs.Characters.{char_len, first_char}
 use Rattle.js_tokens.specs.declared.piece.Piece.{Piece}

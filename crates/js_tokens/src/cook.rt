@@ -26,7 +26,7 @@ pub fn units(alloc: Global, raw: &[u8], template: bool) -> Result<Units, AllocEr
     plain_units(alloc, how, raw)
 }
 
-/// The value of a string, from the text between its quotes (ECMA-262, clauses 12.9.4 and B.1.2).
+/// The value of a string, from the text between its quotes (ECMA-262, clause 12.9.4).
 pub fn cook_string(alloc: Global, raw: &[u8]) -> Result<Units, CookFault>
     requires { length raw.now < 2 ^ 32 }
     ensures value { IfOk result (λ units. string_value raw.now ≡ Ok units) }

@@ -1,5 +1,5 @@
-//! What one character or escape spells (ECMA-262, clauses 12.9.4, 12.9.6 and B.1.2). Each function
-//! is given the text from there to its end.
+//! What one character or escape spells (ECMA-262, clauses 12.9.4 and 12.9.6). Each function is given
+//! the text from there to its end.
 
 ghost use Rattle.std.specs.Prelude.{◌≡◌, ◌<◌, ◌≤◌, ◌^◌, length, slice_index, IfSome};
 ghost use Rattle.js_tokens.specs.Characters.{char_len, first_char};
