@@ -1,4 +1,4 @@
--- The operators (ECMA-262, clauses 13.5 to 13.15, with the assignments of the 12th edition).
+-- The operators (ECMA-262, clauses 13.5 to 13.15).
 use Rattle.std.specs.Prelude.{ℕ, List, Option, Some, None}
 use Rattle.js_tokens.specs.declared.punctuator.Punctuator.{Punctuator}
 use Rattle.js_tokens.specs.declared.punctuator.Punctuator.TheVariants as m

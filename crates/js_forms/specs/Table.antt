@@ -1,4 +1,4 @@
--- The parts of each form, in order (ECMA-262, clauses 13 to 16, with the class parts of the 13th edition).
+-- The parts of each form, in order (ECMA-262, clauses 13 to 16).
 use Rattle.std.specs.Prelude.{ℕ, Bool, true, false, List, [], ◌∷◌, codes}
 use Rattle.js_tokens.specs.declared.punctuator.Punctuator.{Punctuator}
 use Rattle.js_tokens.specs.declared.punctuator.Punctuator.TheVariants as m

@@ -34,7 +34,8 @@ fn truth(truth: bool) -> Scalars
     Scalars::one(Scalar::Truth(truth))
 }
 
-fn is_computed(key: Key) -> bool
+/// Whether the key is computed.
+pub fn is_computed(key: Key) -> bool
     ensures { result ≡ spec.is_computed key }
 {
     match key {
@@ -43,7 +44,8 @@ fn is_computed(key: Key) -> bool
     }
 }
 
-fn is_static(standing: Standing) -> bool
+/// Whether the member is static.
+pub fn is_static(standing: Standing) -> bool
     ensures { result ≡ spec.is_static standing }
 {
     match standing {
@@ -52,7 +54,8 @@ fn is_static(standing: Standing) -> bool
     }
 }
 
-fn is_optional(link: Link) -> bool
+/// Whether the link is `?.`.
+pub fn is_optional(link: Link) -> bool
     ensures { result ≡ spec.is_optional link }
 {
     match link {
@@ -61,8 +64,9 @@ fn is_optional(link: Link) -> bool
     }
 }
 
+/// `kind` of a method (ESTree, MethodDefinition).
 #[tactic(auto, unfolding(crate::specs::Fixed::access_name))]
-fn access_name(access: Access) -> &'static str
+pub fn access_name(access: Access) -> &'static str
     ensures { result.now ≡ spec.access_name access }
 {
     match access {
@@ -73,8 +77,9 @@ fn access_name(access: Access) -> &'static str
     }
 }
 
+/// `kind` of a declaration of variables (ESTree, VariableDeclaration).
 #[tactic(auto, unfolding(crate::specs::Fixed::variable_name))]
-fn variable_name(variable: Variable) -> &'static str
+pub fn variable_name(variable: Variable) -> &'static str
     ensures { result.now ≡ spec.variable_name variable }
 {
     match variable {
@@ -84,8 +89,9 @@ fn variable_name(variable: Variable) -> &'static str
     }
 }
 
+/// The first scalar of a literal: the name of its sort.
 #[tactic(auto, unfolding(crate::specs::Fixed::sort_name))]
-fn sort_name(sort: Sort) -> &'static str
+pub fn sort_name(sort: Sort) -> &'static str
     ensures { result.now ≡ spec.sort_name sort }
 {
     match sort {

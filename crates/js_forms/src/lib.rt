@@ -14,7 +14,9 @@ mod part;
 mod table;
 
 pub use category::Category;
-pub use fixed::scalars;
+pub use fixed::{
+    access_name, is_computed, is_optional, is_static, scalars, sort_name, variable_name,
+};
 pub use form::{Access, Flow, Form, Key, Link, Sort, Standing, Variable};
 pub use levels::{Left, first_child, level, right};
 pub use operator::{Operator, assigning, binary, logical, unary};
