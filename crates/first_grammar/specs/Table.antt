@@ -1,4 +1,4 @@
--- The table of forms. Kinds, scalars and slots are ESTree's; levels are those of ECMA-262, clause 12.
+-- The table of forms. Kinds, scalars and slots are ESTree's; levels are those of ECMA-262, clause 13.
 use Rattle.std.specs.Prelude.{ℕ, Bool, true, false, List, [], ◌∷◌, Option, Some, None}
 use denote.Enum.Bare.{sameb}
 use Rattle.tree_core.specs.declared.scalars.Scalar.{Scalar}

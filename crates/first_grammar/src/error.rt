@@ -2,6 +2,7 @@
 
 use std::alloc::{AllocError, AllocFailed};
 
+/// Why a text is no program of the first grammar.
 #[derive(Clone, Copy, Debug, PartialEq, Eq)]
 pub enum ReadError {
     NoMemory,

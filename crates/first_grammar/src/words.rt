@@ -1,4 +1,4 @@
-//! Blanks, names and the other tokens in bytes (ECMA-262, clause 11, in ASCII alone).
+//! Blanks, names and the other tokens in bytes (ECMA-262, clause 12, in ASCII alone).
 
 ghost use Rattle.std.specs.Prelude.{◌≡◌, ◌≤◌, length};
 ghost use Rattle.std.specs.List.{list_any};
@@ -7,7 +7,7 @@ ghost use Rattle.first_grammar.specs.Words as spec;
 
 use crate::table::Word;
 
-/// The reserved words of ECMA-262, clause 11.6.2, with `let` and `await`.
+/// The reserved words of ECMA-262, clause 12.7.2, with `let` and `await`.
 pub const RESERVED: [&str; 39] = [
     "await",
     "break",
