@@ -1,7 +1,6 @@
 //! Names, and the identifiers of a tree that have one.
 
 ghost use Rattle.std.specs.Prelude.{◌≡◌, ◌↔◌, ◌-◌, ◌^◌, [], ◌∷◌, min, IsTrue};
-ghost use Rattle.std.specs.Str.{bytes_eq};
 ghost use Rattle.tree_core.specs.View.{syntax, slot_view, place_view, places_of};
 ghost use Rattle.first_rename.specs.Names.{IsPlainName, count_of, count_places};
 ghost use Rattle.first_rename.specs.Names as spec;
@@ -9,7 +8,7 @@ ghost use Rattle.first_rename.specs.Names as spec;
 use first_grammar::words::{is_part, is_reserved, is_start};
 use tree_core::{Place, Scalar, Slot, Tree};
 
-/// Whether the bytes are a name and no reserved word (ECMA-262, clause 12.6, in ASCII alone).
+/// Whether the bytes are a name and no reserved word (ECMA-262, clause 12.7, in ASCII alone).
 pub fn is_plain_name(bytes: &[u8]) -> bool
     ensures { IsTrue result ↔ IsPlainName bytes.now }
 {
@@ -76,22 +75,7 @@ fn is_text(scalar: &Scalar, name: &[u8]) -> bool
     ensures { result ≡ spec.is_text name.now scalar.now }
 {
     match scalar {
-        Scalar::Text(units) => same_text(units.get(), name),
+        Scalar::Text(units) => units.is(name),
         _ => false,
     }
-}
-
-// Whether the code units are, as numbers, the bytes.
-fn same_text(units: &[u16], bytes: &[u8]) -> bool
-    ensures { result ≡ bytes_eq units.now bytes.now }
-{
-    if units.len() != bytes.len() {
-        return false;
-    }
-    for at in 0..units.len() {
-        if units[at] != u16::from(bytes[at]) {
-            return false;
-        }
-    }
-    true
 }
