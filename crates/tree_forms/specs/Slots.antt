@@ -1,5 +1,5 @@
 -- What the slots of each form take, in the order of the kind's fields (ESTree; ECMA-262, clauses 13 to
--- 16, with the class parts of the 13th edition).
+-- 16).
 use Rattle.std.specs.Prelude.{ℕ, ◌==◌, if◌then◌else◌, Option, Some, None}
 use Rattle.js_forms.specs.Levels.{first_child, right}
 use Rattle.js_forms.specs.declared.category.Category.{Category}
@@ -22,16 +22,16 @@ use Rattle.tree_forms.specs.declared.slot_def.Change.{Change}
 use Rattle.tree_forms.specs.declared.slot_def.Change.TheVariants as to
 use Rattle.tree_forms.specs.declared.slot_def.SlotDef.{SlotDef}
 
-abbrev pub def : SlotCategory → ℕ → Change → Option SlotDef
-def category least change = Some (record { category = category; least = least; change = change })
+abbrev pub taking : SlotCategory → ℕ → Change → Option SlotDef
+taking category least change = Some (record { category = category; least = least; change = change })
 
 -- what a place of the table of forms takes
 abbrev pub usual : Category → ℕ → Scope → Option SlotDef
-usual category least scope = def (t.Usual category) least (to.Usual scope)
+usual category least scope = taking (t.Usual category) least (to.Usual scope)
 
 -- another category, in the same surroundings
 abbrev pub same : SlotCategory → Option SlotDef
-same category = def category 0 (to.Usual s.Same)
+same category = taking category 0 (to.Usual s.Same)
 
 abbrev pub name : Option SlotDef
 name = usual c.Name 0 s.Same
@@ -60,7 +60,7 @@ function_body = usual c.FunctionBody 0 s.Body
 
 -- a part of a pattern that declares (0) or assigns
 abbrev pub part : ℕ → Category → ℕ → Option SlotDef
-part spelling category least = if spelling == 0 then usual category least s.Free else def (t.Assigned category) least (to.Usual s.Free)
+part spelling category least = if spelling == 0 then usual category least s.Free else taking (t.Assigned category) least (to.Usual s.Free)
 
 -- a key, in brackets or not
 abbrev pub key : Category → Key → Option SlotDef
@@ -85,11 +85,11 @@ operand_level form = left_level (first_child form)
 
 -- what the form begins with
 abbrev pub operand : Form → Option SlotDef
-operand form = def (t.Operand form) (operand_level form) (to.Usual s.Same)
+operand form = taking (t.Operand form) (operand_level form) (to.Usual s.Same)
 
 -- what stands before the `in` or `of` of a loop
 abbrev pub for_left : Form → Option SlotDef
-for_left form = def (t.ForLeft form) 0 to.WithoutIn
+for_left form = taking (t.ForLeft form) 0 to.WithoutIn
 
 -- what has a default: in a pattern that declares (0), in one that assigns (1), in a shorthand
 abbrev pub default_left : ℕ → Option SlotDef
@@ -126,9 +126,9 @@ head spelling declarator = if spelling == 0 then same declarator else same t.Lon
 
 -- the first slot of a statement or of a part of one
 abbrev pub first_of_statement : Form → ℕ → Option SlotDef
-first_of_statement f.Program spelling = def (t.Usual c.ModuleItem) 0 to.Directives
-first_of_statement f.FunctionBody spelling = def (t.Usual c.Item) 0 to.Directives
-first_of_statement f.ExpressionStatement spelling = def (t.Operand f.ExpressionStatement) 0 to.Stay
+first_of_statement f.Program spelling = taking (t.Usual c.ModuleItem) 0 to.Directives
+first_of_statement f.FunctionBody spelling = taking (t.Usual c.Item) 0 to.Directives
+first_of_statement f.ExpressionStatement spelling = taking (t.Operand f.ExpressionStatement) 0 to.Stay
 first_of_statement f.Block spelling = usual c.Item 0 s.Same
 first_of_statement f.With spelling = free 0
 first_of_statement f.If spelling = free 0
@@ -143,7 +143,7 @@ first_of_statement f.Continue spelling = name
 first_of_statement f.Try spelling = block
 first_of_statement f.Catch spelling = usual c.Binding 0 s.Free
 first_of_statement f.DoWhile spelling = body
-first_of_statement f.For spelling = def t.ForInit 0 to.WithoutIn
+first_of_statement f.For spelling = taking t.ForInit 0 to.WithoutIn
 first_of_statement f.ForIn spelling = for_left f.ForIn
 first_of_statement f.ForOf spelling = for_left f.ForOf
 first_of_statement f.ForAwait spelling = for_left f.ForAwait
@@ -174,7 +174,7 @@ first_of_operation (f.Binary operator) spelling = operand (f.Binary operator)
 first_of_operation (f.Logical operator) spelling = operand (f.Logical operator)
 first_of_operation f.Conditional spelling = operand f.Conditional
 first_of_operation (f.Assignment operator) spelling = operand (f.Assignment operator)
-first_of_operation f.Chain spelling = def (t.Operand f.Chain) 17 (to.Usual s.Same)
+first_of_operation f.Chain spelling = taking (t.Operand f.Chain) 17 (to.Usual s.Same)
 first_of_operation f.New spelling = callee spelling
 first_of_operation f.ImportCall spelling = free 1
 first_of_operation (f.Prefix _) spelling = usual c.Target 15 s.Same
@@ -248,7 +248,7 @@ second_of_expression (f.Function _) spelling = parameters
 second_of_expression (f.FunctionDeclaration _) spelling = parameters
 second_of_expression (f.MethodValue _) spelling = parameters
 second_of_expression f.SetterValue spelling = usual c.BindingValue 1 s.Parameters
-second_of_expression (f.Arrow _) spelling = def t.ArrowBody 1 to.ArrowBody
+second_of_expression (f.Arrow _) spelling = taking t.ArrowBody 1 to.ArrowBody
 second_of_expression f.Class spelling = expression 16
 second_of_expression f.ClassDeclaration spelling = expression 16
 second_of_expression (f.Field _ _) spelling = usual c.Expression 1 s.Field

@@ -1,5 +1,5 @@
 -- The pieces of each form, made of the parts that the table of forms gives it, and of what stands
--- before them (ECMA-262, clauses 13 to 16, with the class parts of the 13th edition).
+-- before them (ECMA-262, clauses 13 to 16).
 use Rattle.std.specs.Prelude.{ℕ, Bool, true, false, not, ◌&&◌, ◌||◌, ◌==◌, List, [], ◌∷◌, ◌++◌, map, Option, Some, None, codes, if◌then◌else◌}
 use Rattle.asi_rules.specs.declared.rules.Ending.{Ending}
 use Rattle.asi_rules.specs.declared.rules.Ending.TheVariants as e

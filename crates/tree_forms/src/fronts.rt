@@ -5,72 +5,11 @@ ghost use Rattle.js_forms.specs.Fixed as fixed;
 ghost use Rattle.tree_forms.specs.Reading.{begins, method};
 
 use crate::reading::{is_null_at, is_text_at, is_truth_at};
-use js_forms::{Access, Form, Key, Link, Operator, Sort, Standing, Variable};
+use js_forms::{
+    Access, Form, Key, Operator, Sort, Standing, access_name, is_computed, is_optional, is_static,
+    sort_name, variable_name,
+};
 use tree_core::Scalars;
-
-fn is_computed(key: Key) -> bool
-    ensures { result ≡ fixed.is_computed key }
-{
-    match key {
-        Key::Plain => false,
-        Key::Computed => true,
-    }
-}
-
-fn is_static(standing: Standing) -> bool
-    ensures { result ≡ fixed.is_static standing }
-{
-    match standing {
-        Standing::Instance => false,
-        Standing::Static => true,
-    }
-}
-
-fn is_optional(link: Link) -> bool
-    ensures { result ≡ fixed.is_optional link }
-{
-    match link {
-        Link::Plain => false,
-        Link::Optional => true,
-    }
-}
-
-#[tactic(auto, unfolding(js_forms::specs::Fixed::access_name))]
-pub fn access_name(access: Access) -> &'static str
-    ensures { result.now ≡ fixed.access_name access }
-{
-    match access {
-        Access::Method => "method",
-        Access::Get => "get",
-        Access::Set => "set",
-        Access::Constructor => "constructor",
-    }
-}
-
-#[tactic(auto, unfolding(js_forms::specs::Fixed::variable_name))]
-pub fn variable_name(variable: Variable) -> &'static str
-    ensures { result.now ≡ fixed.variable_name variable }
-{
-    match variable {
-        Variable::Var => "var",
-        Variable::Let => "let",
-        Variable::Const => "const",
-    }
-}
-
-#[tactic(auto, unfolding(js_forms::specs::Fixed::sort_name))]
-pub fn sort_name(sort: Sort) -> &'static str
-    ensures { result.now ≡ fixed.sort_name sort }
-{
-    match sort {
-        Sort::Quoted => "string",
-        Sort::Number => "number",
-        Sort::BigInt => "bigint",
-        Sort::True | Sort::False => "boolean",
-        Sort::Null => "null",
-        Sort::Regex => "regexp",
-    }
-}
 
 fn are_truths(found: &Scalars, one: bool, two: bool) -> bool
     ensures { result ≡ begins (fixed.truths one two) found.now }

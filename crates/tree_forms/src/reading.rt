@@ -2,7 +2,6 @@
 
 ghost use Rattle.std.specs.Prelude.{◌≡◌, [], ◌∷◌, map, slice_get};
 ghost use Rattle.std.specs.Option.{option_copied, option_map};
-ghost use Rattle.std.specs.Str.{bytes_eq};
 ghost use Rattle.tree_core.specs.View.{syntax, slot_view, place_view, slots_of, places_of};
 ghost use Rattle.tree_forms.specs.Choice.{is_either};
 ghost use Rattle.tree_forms.specs.Reading as spec;
@@ -17,7 +16,7 @@ pub fn is_text_at(scalars: &Scalars, number: usize, text: &str) -> bool
     ensures { result ≡ spec.is_text_at text.now (slice_get scalars.now number) }
 {
     match scalars.get(number) {
-        Some(Scalar::Text(units)) => same_text(units.get(), text.as_bytes()),
+        Some(Scalar::Text(units)) => units.is(text.as_bytes()),
         _ => false,
     }
 }
@@ -40,21 +39,6 @@ pub fn is_null_at(scalars: &Scalars, number: usize) -> bool
         Some(Scalar::Null) => true,
         _ => false,
     }
-}
-
-// Whether the code units are, as numbers, the bytes.
-fn same_text(units: &[u16], bytes: &[u8]) -> bool
-    ensures { result ≡ bytes_eq units.now bytes.now }
-{
-    if units.len() != bytes.len() {
-        return false;
-    }
-    for at in 0..units.len() {
-        if units[at] != u16::from(bytes[at]) {
-            return false;
-        }
-    }
-    true
 }
 
 /// What stands in the first place of the slot of this number.

@@ -6,8 +6,8 @@ ghost use Rattle.tree_forms.specs.Slots as spec;
 use crate::slot_def::{Change, SlotCategory, SlotDef, Variant};
 use js_forms::{Access, Category, Flow, Form, Key, Left, Scope, first_child, right};
 
-fn def(category: SlotCategory, least: u8, change: Change) -> Option<SlotDef>
-    ensures { result ≡ spec.def category least change }
+fn taking(category: SlotCategory, least: u8, change: Change) -> Option<SlotDef>
+    ensures { result ≡ spec.taking category least change }
 {
     Some(SlotDef {
         category,
@@ -19,7 +19,7 @@ fn def(category: SlotCategory, least: u8, change: Change) -> Option<SlotDef>
 fn usual(category: Category, least: u8, scope: Scope) -> Option<SlotDef>
     ensures { result ≡ spec.usual category least scope }
 {
-    def(SlotCategory::Usual(category), least, Change::Usual(scope))
+    taking(SlotCategory::Usual(category), least, Change::Usual(scope))
 }
 
 fn name() -> Option<SlotDef>
@@ -77,7 +77,7 @@ fn part(spelling: u8, category: Category, least: u8) -> Option<SlotDef>
     if spelling == 0 {
         return usual(category, least, Scope::Free);
     }
-    def(
+    taking(
         SlotCategory::Assigned(category),
         least,
         Change::Usual(Scope::Free),
@@ -117,7 +117,7 @@ fn operand_level(form: Form) -> u8
 fn operand(form: Form) -> Option<SlotDef>
     ensures { result ≡ spec.operand form }
 {
-    def(
+    taking(
         SlotCategory::Operand(form),
         operand_level(form),
         Change::Usual(Scope::Same),
@@ -127,13 +127,13 @@ fn operand(form: Form) -> Option<SlotDef>
 fn for_left(form: Form) -> Option<SlotDef>
     ensures { result ≡ spec.for_left form }
 {
-    def(SlotCategory::ForLeft(form), 0, Change::WithoutIn)
+    taking(SlotCategory::ForLeft(form), 0, Change::WithoutIn)
 }
 
 fn same(category: SlotCategory) -> Option<SlotDef>
     ensures { result ≡ spec.same category }
 {
-    def(category, 0, Change::Usual(Scope::Same))
+    taking(category, 0, Change::Usual(Scope::Same))
 }
 
 fn default_left(spelling: u8) -> Option<SlotDef>
@@ -213,7 +213,7 @@ fn or(one: Option<SlotDef>, other: Option<SlotDef>) -> Option<SlotDef>
     ensures { result ≡ spec.or one other }
 {
     match one {
-        Some(def) => Some(def),
+        Some(row) => Some(row),
         None => other,
     }
 }
@@ -260,7 +260,7 @@ fn first_of_operation(form: Form, spelling: u8) -> Option<SlotDef>
         | Form::Logical(_)
         | Form::Conditional
         | Form::Assignment(_) => operand(form),
-        Form::Chain => def(SlotCategory::Operand(form), 17, Change::Usual(Scope::Same)),
+        Form::Chain => taking(SlotCategory::Operand(form), 17, Change::Usual(Scope::Same)),
         Form::New => callee(spelling),
         Form::ImportCall => free(1),
         Form::Prefix(_) => usual(Category::Target, 15, Scope::Same),
@@ -275,13 +275,13 @@ fn first_of_statement(form: Form, spelling: u8) -> Option<SlotDef>
     ensures { result ≡ spec.first_of_statement form spelling }
 {
     match form {
-        Form::Program => def(
+        Form::Program => taking(
             SlotCategory::Usual(Category::ModuleItem),
             0,
             Change::Directives,
         ),
-        Form::FunctionBody => def(SlotCategory::Usual(Category::Item), 0, Change::Directives),
-        Form::ExpressionStatement => { def(SlotCategory::Operand(form), 0, Change::Stay) }
+        Form::FunctionBody => taking(SlotCategory::Usual(Category::Item), 0, Change::Directives),
+        Form::ExpressionStatement => { taking(SlotCategory::Operand(form), 0, Change::Stay) }
         Form::Block => usual(Category::Item, 0, Scope::Same),
         Form::With | Form::If | Form::Switch | Form::Case | Form::Throw | Form::While => free(0),
         Form::Return => expression(0),
@@ -289,7 +289,7 @@ fn first_of_statement(form: Form, spelling: u8) -> Option<SlotDef>
         Form::Try => block(),
         Form::Catch => usual(Category::Binding, 0, Scope::Free),
         Form::DoWhile => body(),
-        Form::For => def(SlotCategory::ForInit, 0, Change::WithoutIn),
+        Form::For => taking(SlotCategory::ForInit, 0, Change::WithoutIn),
         Form::ForIn | Form::ForOf | Form::ForAwait => for_left(form),
         Form::Variables(word) => same(SlotCategory::Declarator(word)),
         Form::HeadVariables(word) => {
@@ -335,7 +335,7 @@ fn second_of_expression(form: Form, spelling: u8) -> Option<SlotDef>
         }
         Form::Function(_) | Form::FunctionDeclaration(_) | Form::MethodValue(_) => parameters(),
         Form::SetterValue => usual(Category::BindingValue, 1, Scope::Parameters),
-        Form::Arrow(_) => def(SlotCategory::ArrowBody, 1, Change::ArrowBody),
+        Form::Arrow(_) => taking(SlotCategory::ArrowBody, 1, Change::ArrowBody),
         Form::Class | Form::ClassDeclaration => expression(16),
         Form::Field(_, _) => usual(Category::Expression, 1, Scope::Field),
         Form::Template | Form::Index(_) => free(0),
