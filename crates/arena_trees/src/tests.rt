@@ -1,3 +1,5 @@
+//! A statement that goes into an arena and comes back.
+
 use crate::{load, unload};
 use node_arena::Arena;
 use sqlite_items::Items;

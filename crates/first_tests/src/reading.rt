@@ -1,3 +1,5 @@
+//! Sources of the first grammar that are read or refused, with the stretches and levels of their nodes.
+
 ghost use Rattle.std.specs.Prelude.{◌≤◌, length};
 
 use first_grammar::{ReadError, parse};
