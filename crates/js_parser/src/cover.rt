@@ -5,13 +5,11 @@ ghost use Rattle.js_parser.specs.Callable.{Convertible};
 ghost use Rattle.js_parser.specs.Seats as spec;
 
 use crate::reader::Marks;
+use crate::reading::MOST_LEVELS;
 use sqlite_items::Items;
 use std::alloc::{AllocError, Global};
 use tree_core::{Place, Scalar, Scalars, Slot, Tree};
 use type_defs::Kind;
-
-/// The most levels that a tree has which is read.
-const MOST_LEVELS: u32 = 2000;
 
 /// Why an expression is no pattern.
 #[derive(Clone, Copy)]

@@ -12,7 +12,7 @@ use js_forms::{Access, Category, Flow, Form, Key, Standing};
 use js_lexer::{Cursor, Refusal};
 use js_tokens::{Punctuator, Token, TokenKind, Word, is_reserved};
 use std::alloc::Global;
-use tree_core::{Scalar, Tree, Units, copy};
+use tree_core::{Scalar, Tree, copy};
 use type_defs::Kind;
 
 /// The words before a key.
@@ -122,23 +122,9 @@ fn flow(cursor: &mut Cursor<'_>) -> Flow {
     Flow::new(is_async, generator)
 }
 
-fn is_spelled(units: &Units, spelling: &str) -> bool {
-    let units = units.get();
-    let bytes = spelling.as_bytes();
-    if units.len() != bytes.len() {
-        return false;
-    }
-    for at in 0..units.len() {
-        if at < bytes.len() && units[at] != u16::from(bytes[at]) {
-            return false;
-        }
-    }
-    true
-}
-
 fn has_text(tree: &Tree, at: usize, spelling: &str) -> bool {
     match tree.scalars.get(at) {
-        Some(Scalar::Text(units)) => is_spelled(units, spelling),
+        Some(Scalar::Text(units)) => units.is(spelling.as_bytes()),
         _ => false,
     }
 }

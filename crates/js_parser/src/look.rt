@@ -207,24 +207,22 @@ pub fn operand_form(cursor: &Cursor<'_>, context: Context) -> Option<Form> {
     }
 }
 
+// The one form before a `.`, the other before all else.
+fn before_dot(cursor: &Cursor<'_>, dotted: Form, other: Form) -> Form {
+    if is_mark(second_kind(cursor), Punctuator::Dot) {
+        return dotted;
+    }
+    other
+}
+
 fn word_form(cursor: &Cursor<'_>, word: Word, context: Context) -> Option<Form> {
     match word {
         Word::This => Some(Form::This),
         Word::Function => Some(Form::Function(function_flow(cursor))),
         Word::Class => Some(Form::Class),
         Word::Super => Some(Form::Super),
-        Word::New => {
-            if is_mark(second_kind(cursor), Punctuator::Dot) {
-                return Some(Form::NewTarget);
-            }
-            Some(Form::New)
-        }
-        Word::Import => {
-            if is_mark(second_kind(cursor), Punctuator::Dot) {
-                return Some(Form::ImportMeta);
-            }
-            Some(Form::ImportCall)
-        }
+        Word::New => Some(before_dot(cursor, Form::NewTarget, Form::New)),
+        Word::Import => Some(before_dot(cursor, Form::ImportMeta, Form::ImportCall)),
         Word::Await => {
             if context.takes_await() {
                 return Some(Form::Await);

@@ -4,8 +4,9 @@ ghost use Rattle.std.specs.Prelude.{◌≡◌};
 ghost use Rattle.js_parser.specs.Callable.{Callable};
 ghost use Rattle.js_parser.specs.Looks as spec;
 
+use crate::cover::{Unfit, to_pattern};
 use crate::grammar::Grammar;
-use crate::grown::{Children, Grown, Parts};
+use crate::grown::{Children, Grown, Nature, Parts};
 use crate::look::{
     begins_template, is_mark, is_name, is_word, operand_form, second, second_is_mark,
 };
@@ -153,23 +154,18 @@ impl<F: Fn(Global, &mut Reader<'_>, u32, Want) -> Result<Grown, Refusal>> Gramma
             grouped,
             nature,
         } = cover;
-        let pattern = crate::cover::to_pattern(
-            self.alloc,
-            Box::into_inner(tree),
-            binding,
-            &reader.marks,
-        );
+        let pattern = to_pattern(self.alloc, Box::into_inner(tree), binding, &reader.marks);
         let tree = match pattern {
             Ok(tree) => tree.boxed(self.alloc)?,
-            Err(crate::cover::Unfit::NoMemory) => return Err(Refusal::NoMemory),
-            Err(crate::cover::Unfit::NoPattern) => return Err(reader.cursor.refuse()),
+            Err(Unfit::NoMemory) => return Err(Refusal::NoMemory),
+            Err(Unfit::NoPattern) => return Err(reader.cursor.refuse()),
         };
         let form = match form {
             Form::Array => Form::ArrayPattern,
             Form::Object => Form::ObjectPattern,
             _ => form,
         };
-        let nature = crate::grown::Nature {
+        let nature = Nature {
             loose: false,
             ..nature
         };
