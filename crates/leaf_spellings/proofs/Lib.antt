@@ -7,3 +7,4 @@ pub mod WordLeaves
 pub mod StatementLeaves
 pub mod LiteralLeaves
 pub mod TemplateLeaves
+pub mod SameTexts

@@ -7,6 +7,7 @@ ghost use Rattle.leaf_spellings.specs.Plain.{SpellsPlainly};
 use cm_text::Source;
 use js_tokens::{CookFault, Token, cook_string, name_of, units};
 use std::alloc::{AllocError, Global};
+use tree_core::Units;
 
 // Whether the bytes are in ASCII without escapes and line ends, and as numbers the code units.
 #[tactic(auto, using(crate::proofs::PlainTexts::plain_texts))]
@@ -61,20 +62,11 @@ pub fn spells_name(
 }
 
 /// Whether the code units are those of the text.
-#[tactic(auto, using(std::proofs::lemmas::Grind::same_number_lists))]
-pub fn same_text(units: &[u16], text: &str) -> bool
+#[tactic(auto, using(crate::proofs::SameTexts::same_bytes))]
+pub fn same_text(units: &Units, text: &str) -> bool
     ensures { result ≡ true → units.now ≡ text.now }
 {
-    let bytes = text.as_bytes();
-    if units.len() != bytes.len() {
-        return false;
-    }
-    for at in 0..units.len() {
-        if units[at] != u16::from(bytes[at]) {
-            return false;
-        }
-    }
-    true
+    units.is(text.as_bytes())
 }
 
 /// Whether the bytes, as they stand or as characters of a template, are this text.

@@ -1,11 +1,11 @@
 //! The scalars of a leaf.
 
-ghost use Rattle.std.specs.Prelude.{◌≡◌, [], ◌∷◌, IfSome};
+ghost use Rattle.std.specs.Prelude.{◌≡◌, [], ◌∷◌, true, IfSome};
 ghost use Rattle.js_forms.specs.Fixed as spec;
 ghost use Rattle.tree_core.specs.declared.scalars.Scalar.TheVariants as scalar;
 
 use crate::same::same_text;
-use js_forms::Sort;
+use js_forms::{Sort, sort_name};
 use tree_core::{Scalar, Scalars};
 
 /// The text of scalars that are one text alone.
@@ -22,18 +22,17 @@ pub fn one_text(scalars: &Scalars) -> Option<&[u16]>
     }
 }
 
-// The name of a sort of literal.
-#[tactic(auto, unfolding(js_forms::specs::Fixed::sort_name))]
-fn sort_name(sort: Sort) -> &'static str
-    ensures { result.now ≡ spec.sort_name sort }
+/// Whether the scalars are this text alone.
+#[tactic(auto, using(crate::proofs::ShortLists::one_alone))]
+pub fn is_one_text(scalars: &Scalars, text: &str) -> bool
+    ensures { result ≡ true → scalars.now ≡ scalar.Text text.now ∷ [] }
 {
-    match sort {
-        Sort::Quoted => "string",
-        Sort::Number => "number",
-        Sort::BigInt => "bigint",
-        Sort::True | Sort::False => "boolean",
-        Sort::Null => "null",
-        Sort::Regex => "regexp",
+    if scalars.len() != 1 {
+        return false;
+    }
+    match scalars.get(0) {
+        Some(Scalar::Text(units)) => same_text(units, text),
+        _ => false,
     }
 }
 
@@ -47,7 +46,7 @@ pub fn value_of(scalars: &Scalars, sort: Sort) -> Option<(&Scalar, &Scalar)>
     }
     match (scalars.get(0), scalars.get(1), scalars.get(2)) {
         (Some(Scalar::Text(name)), Some(value), Some(flags)) => {
-            if same_text(name.get(), sort_name(sort)) {
+            if same_text(name, sort_name(sort)) {
                 return Some((value, flags));
             }
             None

@@ -12,8 +12,7 @@ ghost use Rattle.type_defs.specs.declared.kind.Kind.TheVariants as kind;
 ghost use Rattle.leaf_spellings.specs.Begun.{Begins};
 ghost use Rattle.leaf_spellings.specs.Leaves.{Leaf};
 
-use crate::same::same_text;
-use crate::scalars::one_text;
+use crate::scalars::is_one_text;
 use cm_text::Source;
 use js_lexer::next;
 use js_tokens::{Goal, Punctuator, Token, TokenKind, Word};
@@ -98,14 +97,11 @@ pub fn is_meta_property(source: &Source, span: Span, token: Token, scalars: &Sca
     requires { Begins source.now span token }
     ensures { result ≡ true → Leaf source.now span.start span.end (number_of kind.MetaProperty) scalars.now }
 {
-    let Some(text) = one_text(scalars) else {
-        return false;
-    };
     if is_word(token.kind, Word::New) {
-        return same_text(text, "new.target")
+        return is_one_text(scalars, "new.target")
             && is_dot_and_name(source, token.end, "target", span.end);
     }
     is_word(token.kind, Word::Import)
-        && same_text(text, "import.meta")
+        && is_one_text(scalars, "import.meta")
         && is_dot_and_name(source, token.end, "meta", span.end)
 }
