@@ -1,7 +1,6 @@
 //! Identifiers and texts of a name.
 
 ghost use Rattle.std.specs.Prelude.{◌≡◌};
-ghost use Rattle.std.specs.Str.{bytes_eq};
 ghost use Rattle.first_rename.specs.Names as spec;
 
 use tree_core::{Scalar, Tree};
@@ -25,22 +24,7 @@ pub fn is_text(scalar: &Scalar, text: &[u8]) -> bool
     ensures { result ≡ spec.is_text text.now scalar.now }
 {
     match scalar {
-        Scalar::Text(units) => same_text(units.get(), text),
+        Scalar::Text(units) => units.is(text),
         _ => false,
     }
-}
-
-// Whether the code units are, as numbers, the bytes.
-fn same_text(units: &[u16], bytes: &[u8]) -> bool
-    ensures { result ≡ bytes_eq units.now bytes.now }
-{
-    if units.len() != bytes.len() {
-        return false;
-    }
-    for at in 0..units.len() {
-        if units[at] != u16::from(bytes[at]) {
-            return false;
-        }
-    }
-    true
 }
