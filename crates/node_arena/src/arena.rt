@@ -374,6 +374,7 @@ impl Arena {
         self.forest.slot_of(place.number())
     }
 
+    /// The number of a node's kind, 1 to 73.
     pub fn kind(&self, node: NodeId) -> u8
         requires at { node < length self.now.forest.nodes }
         ensures { result ≡ kind_at self.now.forest node }

@@ -2,7 +2,7 @@
 //! row that exists.
 
 ghost use Rattle.std.specs.Prelude.{◌≡◌, ◌<◌, ◌≤◌, ◌+◌, ◌-◌, ◌*◌, ◌^◌, ◌++◌, ◌∷◌, [], ℕ, Some, length, map, max, slice_get, take, vec_len, vec_capacity, IfOk, IsOk, OnOk, OnErr};
-ghost use Rattle.node_arena.specs.Rows.{Rows, Table, HasRow, front_rows, made_rows, place_row, place_rows, slot_row, slot_rows, start_table, table_of, with_place, written};
+ghost use Rattle.node_arena.specs.Rows.{Rows, Table, HasRow, empty_row, front_rows, made_rows, place_row, place_rows, slot_row, slot_rows, start_table, table_of, with_place, written};
 ghost use Rattle.node_arena.specs.Lists.{is_list};
 
 use crate::steps::Steps;
@@ -84,6 +84,18 @@ pub fn keep<T: Drop>(items: &mut Vec<T>, item: T)
     }
 }
 
+// A place of the slot, with no node and no neighbours.
+fn empty_place(owner: Option<u32>) -> PlaceRow
+    ensures { result ≡ empty_row owner }
+{
+    PlaceRow {
+        owner,
+        node: None,
+        next: None,
+        prev: None,
+    }
+}
+
 /// A new slot of a node: an empty list, or one place, empty.
 fn push_slot(slots: &mut Vec<SlotRow>, places: &mut Vec<PlaceRow>, node: u32, index: u8, list: bool)
     requires slots { vec_len slots.old < vec_capacity slots.old }
@@ -111,15 +123,7 @@ fn push_slot(slots: &mut Vec<SlotRow>, places: &mut Vec<PlaceRow>, node: u32, in
     }
     let owner = slots.len() as u32;
     let first = places.len() as u32;
-    keep(
-        places,
-        PlaceRow {
-            owner: Some(owner),
-            node: None,
-            next: None,
-            prev: None,
-        },
-    );
+    keep(places, empty_place(Some(owner)));
     keep(
         slots,
         SlotRow {
@@ -156,12 +160,7 @@ impl Links {
         ensures { IfOk result (λ t. t ≡ start_table) }
     {
         let mut places = Vec::new(alloc);
-        places.push(PlaceRow {
-            owner: None,
-            node: None,
-            next: None,
-            prev: None,
-        })?;
+        places.push(empty_place(None))?;
         Ok(Links {
             nodes: Vec::new(alloc),
             slots: Vec::new(alloc),
