@@ -107,7 +107,7 @@ fn seats_comments(rt: HostRuntime) -> Result<(), Fail> {
     let template = "`a${/* a */ b}c${d /* b */}`";
     let branch = "if (a) /* a */ b; else c // b\n/* c */\n// d\nd";
     // a text, an address, the comments before, after and inside
-    let cases: [(&str, &[u32], usize, usize, usize); 13] = [
+    let cases: [(&str, &[u32], usize, usize, usize); 25] = [
         (call, &[0], 1, 1, 0),
         (call, &[0, 0, 1], 1, 1, 0),
         (call, &[0, 0, 2], 0, 0, 0),
@@ -121,6 +121,18 @@ fn seats_comments(rt: HostRuntime) -> Result<(), Fail> {
         (branch, &[1], 2, 0, 0),
         ("({/* a */ b})", &[0, 0, 0, 1], 0, 0, 0),
         ("({/* a */ b})", &[0, 0, 0], 1, 0, 0),
+        ("f(a /* x */, // y\nb)", &[0, 0, 1], 0, 2, 0),
+        ("a; /* b */ // c\nd", &[0], 0, 2, 0),
+        ("return /* n */;", &[0], 0, 0, 1),
+        ("{ /* a */ }", &[0], 0, 0, 1),
+        ("function f(/* a */) {}", &[0, 1], 1, 0, 0),
+        ("(/* a */ b /* c */)", &[0, 0], 1, 1, 0),
+        ("[/* a */, b]", &[0, 0, 1], 1, 0, 0),
+        ("a\n// b\n", &[0], 0, 1, 0),
+        ("export { a /* b */ };", &[0, 1], 0, 1, 0),
+        ("export { a /* b */ };", &[0, 1, 1], 0, 0, 0),
+        ("import { a /* b */ as c } from \"m\";", &[0, 0, 1], 1, 0, 0),
+        ("#!x\n// a\nb", &[0], 1, 0, 0),
     ];
     for (text, steps, lead, trail, inner) in cases {
         let found = notes(rt.alloc(), text, steps)?;
