@@ -59,22 +59,8 @@ fn ascii_units(alloc: Global, text: &str) -> Result<Units, AllocError> {
 
 /// The decimal digits of a number.
 fn digits(alloc: Global, number: u64) -> Result<Units, AllocError> {
-    let mut backwards = Vec::new(alloc);
-    let mut left = number;
-    for _turn in 0..20 {
-        backwards.push(48 + (left % 10) as u16)?;
-        left /= 10;
-        if left == 0 {
-            break;
-        }
-    }
-    let mut units = Vec::new(alloc);
-    for _turn in 0..backwards.len() {
-        if let Some(digit) = backwards.pop() {
-            units.push(digit)?;
-        }
-    }
-    Ok(Units::new(units))
+    let text = number.to_string(alloc)?;
+    ascii_units(alloc, &text)
 }
 
 /// The scalar that an argument says; null where it says none.
