@@ -1,9 +1,11 @@
 -- The rows of sources: of those that have no tree, and of new texts.
-use Rattle.std.proofs.Common.{◌≡◌, ℕ, ◌<◌, ◌≤◌, Bool, true, false, List, length, inr, arith}
+use Rattle.std.proofs.Common.{◌≡◌, ℕ, ◌<◌, ◌≤◌, Bool, true, false, List, length, inr, arith, sym, subst}
 use Rattle.std.specs.Prelude.{if◌then◌else◌, nat_lt}
 use Rattle.std.specs.Prelude.{Ok as Good, Err as Bad}
 use Rattle.std.specs.Str.{is_utf8}
 use Rattle.std.specs.Str.Lossy.{utf8_valid_len}
+use Rattle.tree_core.specs.Syntax.{Syntax as Tree}
+use Rattle.tree_core.specs.declared.span.Span.{Span}
 use Rattle.cm_text.specs.Text.{source_of}
 use Rattle.cm_text.specs.declared.fault.TextFault.TheVariants.{TooLong, NotUtf8}
 use Rattle.cm_text.specs.declared.source.TheConstants.{MAX_LENGTH}
@@ -12,7 +14,7 @@ use Rattle.js_lexer.specs.declared.fault.SyntaxKind.TheVariants.{Unexpected, Nes
 use Rattle.run_report.specs.declared.answer.RowAnswer.{RowAnswer}
 use Rattle.run_report.specs.declared.answer.RowAnswer.TheVariants.{Ok, Unmodified, Skipped, Error}
 use Rattle.codemod_cmd.specs.Script.{Change}
-use Rattle.codemod_cmd.specs.FileAnswer.{IsSource, IsOther, HasNoTree, Makes, FileAnswer}
+use Rattle.codemod_cmd.specs.FileAnswer.{IsSource, IsTreeOf, IsOther, HasNoTree, Makes, FileAnswer}
 use Rattle.codemod_cmd.specs.Readings.{IsTold}
 
 pub other_refused : (s : List ℕ) (at : ℕ) (kind : SyntaxKind) → IsOther s → at ≤ length s → HasNoTree s at kind
@@ -37,3 +39,10 @@ source_of_bytes bytes s = go (nat_lt MAX_LENGTH (length bytes)) (is_utf8 bytes)
     go true text e = (cc)
     go false true e = (cc)
     go false false e = (cc)
+
+-- what is a tree of the bytes of a source is one of the source, and the other way round
+pub tree_of_source : (bytes s : List ℕ) (spans : List Span) (t : Tree) → bytes ≡ s → IsTreeOf bytes spans t → IsTreeOf s spans t
+tree_of_source bytes s spans t same is = subst (λ z. IsTreeOf z spans t) same is
+
+pub tree_of_bytes : (bytes s : List ℕ) (spans : List Span) (t : Tree) → bytes ≡ s → IsTreeOf s spans t → IsTreeOf bytes spans t
+tree_of_bytes bytes s spans t same is = subst (λ z. IsTreeOf z spans t) (sym same) is

@@ -96,7 +96,8 @@ fn of_other(alloc: Global, source: Source, change: &Transform) -> Result<Outcome
 fn of_source(alloc: Global, source: Source, change: &Transform) -> Result<Outcome, AllocError>
     ensures { IfOk result (λ o. FileAnswer (change_of change.now) source o.answer o.text.items) }
 {
-    match read_first(alloc, source.bytes())? {
+    let reading = read_first(alloc, source.bytes())?;
+    match reading {
         Reading::First(parsed) => of_first(alloc, source, &parsed, change),
         Reading::Other => of_other(alloc, source, change),
         Reading::Deep { at } => Ok(refused(alloc, at, SyntaxKind::Nesting)),
