@@ -7,6 +7,9 @@ use sqlite_items::Items;
 use std::alloc::{AllocError, Global};
 use tree_core::{Place, Slot};
 
+/// The least number of places for which a list is taken at its size anew.
+const LONG: usize = 512;
+
 // Moves the items onto the others, the last first.
 fn moved<T: Drop>(from: &mut Items<T>, onto: &mut Items<T>) -> Result<(), AllocError>
     ensures { IfOk result (λ _. from.new ≡ []) }
@@ -38,11 +41,22 @@ impl Waiting {
         moved(slots, &mut self.slots)
     }
 
-    /// Takes the places, of which the first comes first, and leaves none.
-    pub fn take_places(&mut self, places: &mut Items<Place>) -> Result<(), AllocError>
+    /// Takes the places, of which the first comes first, and leaves none. A long list, which grew by
+    /// doubling, then has room for as many and no more: of blocks that are freed behind the nodes in
+    /// them only the largest make the allocator gather all small ones.
+    pub fn take_places(
+        &mut self,
+        alloc: Global,
+        places: &mut Items<Place>,
+    ) -> Result<(), AllocError>
         ensures { IfOk result (λ _. places.new ≡ []) }
     {
-        moved(places, &mut self.places)
+        let count = places.len();
+        moved(places, &mut self.places)?;
+        if count >= LONG {
+            *places = Items::from_vec(Vec::with_capacity(alloc, count)?);
+        }
+        Ok(())
     }
 
     pub fn next_slot(&mut self) -> Option<Slot> {
