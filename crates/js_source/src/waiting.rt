@@ -7,8 +7,8 @@ use sqlite_items::Items;
 use std::alloc::{AllocError, Global};
 use tree_core::{Place, Slot};
 
-/// The least number of places for which a list is taken at its size anew.
-const LONG: usize = 512;
+/// The most places of a list that is no large block to the allocator of the C library (64 kB).
+const FEW: usize = 1024;
 
 // Moves the items onto the others, the last first.
 fn moved<T: Drop>(from: &mut Items<T>, onto: &mut Items<T>) -> Result<(), AllocError>
@@ -42,8 +42,8 @@ impl Waiting {
     }
 
     /// Takes the places, of which the first comes first, and leaves none. A long list, which grew by
-    /// doubling, then has room for as many and no more: of blocks that are freed behind the nodes in
-    /// them only the largest make the allocator gather all small ones.
+    /// doubling, is taken anew at its size, so that fewer lists are large blocks: when one is freed, the
+    /// allocator gathers all small ones that were freed before it, the nodes in it among them.
     pub fn take_places(
         &mut self,
         alloc: Global,
@@ -53,7 +53,8 @@ impl Waiting {
     {
         let count = places.len();
         moved(places, &mut self.places)?;
-        if count >= LONG {
+        if count > FEW {
+            *places = Items::new(alloc);
             *places = Items::from_vec(Vec::with_capacity(alloc, count)?);
         }
         Ok(())
