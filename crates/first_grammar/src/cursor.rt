@@ -88,17 +88,6 @@ fn scan(text: &[u8], from: u32) -> Token
     }
 }
 
-/// A text of ASCII characters.
-fn ascii_units(alloc: Global, bytes: &[u8]) -> Result<Units, AllocError>
-    ensures { IfOk result (λ units. units ≡ bytes.now) }
-{
-    let mut units = Vec::new(alloc);
-    for byte in bytes {
-        units.push(*byte as u16)?;
-    }
-    Ok(Units::new(units))
-}
-
 impl<'a> Cursor<'a> {
     pub fn new(alloc: Global, text: &'a [u8]) -> Cursor<'a>
         requires short { length text.now ≤ 2097152 }
@@ -205,7 +194,7 @@ impl<'a> Cursor<'a> {
         ensures { Gives same (spec.named_if true self.old) result self.new }
     {
         let bytes = &self.text[self.ahead.start as usize..self.ahead.end as usize];
-        let units = ascii_units(alloc, bytes)?;
+        let units = Units::of_bytes(alloc, bytes)?;
         self.take();
         Ok(units)
     }

@@ -91,9 +91,8 @@ pub fn fixed(alloc: Global, kind: Kind) -> Result<Scalars, AllocError>
         Kind::Member => Scalars::one(Scalar::Truth(false)).with(alloc, Scalar::Truth(false)),
         Kind::Call => Ok(Scalars::one(Scalar::Truth(false))),
         Kind::Assignment => {
-            let mut operator = Vec::new(alloc);
-            operator.push(61)?;
-            Ok(Scalars::one(Scalar::Text(Units::new(operator))))
+            let operator = Units::of_bytes(alloc, b"=")?;
+            Ok(Scalars::one(Scalar::Text(operator)))
         }
         Kind::Program => Ok(Scalars::one(Scalar::Null)),
         _ => Ok(Scalars::new()),

@@ -9,22 +9,11 @@ use crate::operator::Operator;
 use std::alloc::{AllocError, Global};
 use tree_core::{Scalar, Scalars, Units};
 
-// The code units of an ASCII text.
-fn ascii_units(alloc: Global, bytes: &[u8]) -> Result<Units, AllocError>
-    ensures { IfOk result (λ units. units ≡ bytes.now) }
-{
-    let mut units = Vec::with_capacity(alloc, bytes.len())?;
-    for byte in bytes {
-        units.push(*byte as u16)?;
-    }
-    Ok(Units::new(units))
-}
-
 // The text, with room for so many scalars in all.
 fn text(alloc: Global, room: usize, spelling: &str) -> Result<Scalars, AllocError>
     ensures { IfOk result (λ all. all ≡ scalar.Text spelling.now ∷ []) }
 {
-    let units = ascii_units(alloc, spelling.as_bytes())?;
+    let units = Units::of_bytes(alloc, spelling.as_bytes())?;
     Scalars::with_room(alloc, room)?.with(alloc, Scalar::Text(units))
 }
 

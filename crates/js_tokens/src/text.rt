@@ -71,21 +71,21 @@ fn cooked_piece(how: Cooked, bytes: &[u8]) -> Option<Piece>
     }
 }
 
-fn push_piece(units: &mut Vec<u16>, piece: Piece) -> Result<(), AllocError>
+fn push_piece(alloc: Global, units: &mut Units, piece: Piece) -> Result<(), AllocError>
     requires { IsWhole piece }
-    ensures { OnOk result (units.new.items ≡ units.old.items ++ piece_units piece) }
+    ensures { OnOk result (units.new ≡ units.old ++ piece_units piece) }
 {
     let Some(code) = piece.code else {
         return Ok(());
     };
     if code < 0x1_0000 {
-        units.push(code as u16)?;
+        units.push(alloc, code as u16)?;
         return Ok(());
     }
     let high = 0xD800 + (code - 0x1_0000) / 0x400;
     let low = 0xDC00 + (code - 0x1_0000) % 0x400;
-    units.push(high as u16)?;
-    units.push(low as u16)?;
+    units.push(alloc, high as u16)?;
+    units.push(alloc, low as u16)?;
     Ok(())
 }
 
@@ -93,14 +93,14 @@ fn push_piece(units: &mut Vec<u16>, piece: Piece) -> Result<(), AllocError>
 pub fn plain_units(alloc: Global, how: Spelled, raw: &[u8]) -> Result<Units, AllocError>
     ensures { IfOk result (λ units. units ≡ plain_units how 0 raw.now) }
 {
-    let mut units = Vec::with_capacity(alloc, raw.len())?;
+    let mut units = Units::with_room(alloc, raw.len())?;
     let mut at = 0;
     while at < raw.len() {
         let piece = plain_piece(how, &raw[at..]);
-        push_piece(&mut units, piece)?;
+        push_piece(alloc, &mut units, piece)?;
         at += piece.len.min(raw.len() - at);
     }
-    Ok(Units::new(units))
+    Ok(units)
 }
 
 /// The code units of the text, or where the first escape stands that is not valid.
@@ -109,14 +109,14 @@ pub fn cooked_units(alloc: Global, how: Cooked, raw: &[u8]) -> Result<Units, Sto
     ensures bad_escape { (at : ℕ) → result ≡ Err (Stop.BadEscape at) → cooked_units how 0 0 raw.now ≡ Err at }
     ensures within { (at : ℕ) → result ≡ Err (Stop.BadEscape at) → at < length raw.now }
 {
-    let mut units = Vec::new(alloc);
+    let mut units = Units::empty();
     let mut at = 0;
     while at < raw.len() {
         let Some(piece) = cooked_piece(how, &raw[at..]) else {
             return Err(Stop::BadEscape(at));
         };
-        push_piece(&mut units, piece)?;
+        push_piece(alloc, &mut units, piece)?;
         at += piece.len.min(raw.len() - at);
     }
-    Ok(Units::new(units))
+    Ok(units)
 }

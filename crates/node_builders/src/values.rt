@@ -49,24 +49,16 @@ fn name_of(arena: &Arena, node: NodeId) -> Option<&[u16]> {
     }
 }
 
-fn ascii_units(alloc: Global, text: &str) -> Result<Units, AllocError> {
-    let mut units = Vec::new(alloc);
-    for byte in text.as_bytes() {
-        units.push(*byte as u16)?;
-    }
-    Ok(Units::new(units))
-}
-
 /// The decimal digits of a number.
 fn digits(alloc: Global, number: u64) -> Result<Units, AllocError> {
     let text = number.to_string(alloc)?;
-    ascii_units(alloc, &text)
+    Units::of_bytes(alloc, text.as_bytes())
 }
 
 /// The scalar that an argument says; null where it says none.
 fn scalar_of(alloc: Global, value: &BuildArg) -> Result<Scalar, AllocError> {
     match value {
-        BuildArg::Text(text) => Ok(Scalar::Text(Units::new(Vec::from_slice(alloc, text.get())?))),
+        BuildArg::Text(text) => Ok(Scalar::Text(text.copied(alloc)?)),
         BuildArg::Whole(number) => Ok(Scalar::Text(digits(alloc, number.unsigned_abs())?)),
         BuildArg::Truth(truth) => Ok(Scalar::Truth(*truth)),
         BuildArg::Absent | BuildArg::Node(_) | BuildArg::Nodes(_) | BuildArg::Null => {
@@ -107,7 +99,7 @@ fn scalar_for(
     takes: Takes,
 ) -> Result<Scalar, AllocError> {
     if takes == Takes::Sort && !args.is_empty() {
-        return Ok(Scalar::Text(ascii_units(alloc, sort_of(&args[0]))?));
+        return Ok(Scalar::Text(Units::of_bytes(alloc, sort_of(&args[0]).as_bytes())?));
     }
     let Some(at) = argument_for(kind, field) else {
         return Ok(usual(takes));

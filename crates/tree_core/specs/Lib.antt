@@ -5,5 +5,6 @@ pub mod Held
 pub mod Noted
 pub mod Notes
 pub mod Numbers
+pub mod Stored
 pub mod Syntax
 pub mod View

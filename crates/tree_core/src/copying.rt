@@ -6,7 +6,6 @@ ghost use Rattle.tree_core.specs.View.{syntax, slot_view, place_view};
 use crate::comment::{Comment, Comments, Notes};
 use crate::scalars::{Scalar, Scalars};
 use crate::tree::{Place, Slot, Tree};
-use crate::units::Units;
 use sqlite_items::Items;
 use std::alloc::{AllocError, Global};
 
@@ -77,7 +76,7 @@ pub fn copy_comments(alloc: Global, comments: &[Comment]) -> Result<Comments, Al
     for comment in comments {
         copied.push(Comment {
             block: comment.block,
-            text: copy_units(alloc, &comment.text)?,
+            text: comment.text.copied(alloc)?,
         })?;
     }
     Ok(copied)
@@ -102,14 +101,8 @@ pub fn copy_scalar(alloc: Global, scalar: &Scalar) -> Result<Scalar, AllocError>
     ensures { IfOk result (λ copied. copied ≡ scalar.now) }
 {
     match scalar {
-        Scalar::Text(text) => Ok(Scalar::Text(copy_units(alloc, text)?)),
+        Scalar::Text(text) => Ok(Scalar::Text(text.copied(alloc)?)),
         Scalar::Truth(truth) => Ok(Scalar::Truth(*truth)),
         Scalar::Null => Ok(Scalar::Null),
     }
-}
-
-fn copy_units(alloc: Global, units: &Units) -> Result<Units, AllocError>
-    ensures { IfOk result (λ copied. copied ≡ units.now) }
-{
-    Ok(Units::new(Vec::from_slice(alloc, units.get())?))
 }

@@ -283,7 +283,7 @@ fn copy_comment(alloc: Global, comment: &Comment) -> Result<Comment, AllocError>
 {
     Ok(Comment {
         block: comment.block,
-        text: Units::new(Vec::from_slice(alloc, comment.text.get())?),
+        text: comment.text.copied(alloc)?,
     })
 }
 

@@ -4,7 +4,7 @@ use Rattle.js_tokens.proofs.text.cooked_units.Given as goal
 
 abbrev pub invariant-loop-at : goal.invariant-loop-at
 invariant-loop-at l = record {
-  so_far : cooked_units l.how 0 0 l.raw ≡ before l.units.items (cooked_units l.how l.at 0 (drop l.at l.raw));
+  so_far : cooked_units l.how 0 0 l.raw ≡ before l.units (cooked_units l.how l.at 0 (drop l.at l.raw));
   within : l.at ≤ length l.raw;
 }
 

@@ -6,7 +6,7 @@ use Rattle.js_tokens.proofs.text.plain_units.Goals as goal
 
 pub loop-at-preserved : goal.loop-at-preserved
 loop-at-preserved c = record {
-  so_far = plain_step c.args.how c.args.raw.now c.loop-at.units.items _ c.loop-at.at _ c.plain_piece-piece.result
+  so_far = plain_step c.args.how c.args.raw.now c.loop-at.units _ c.loop-at.at _ c.plain_piece-piece.result
       c.loop-at.invariant.so_far (omega arith)
       (c.plain_piece-piece.ensures.value ∙ ap (plain_piece c.args.how) (take_rest c.args.raw.now c.loop-at.at))
       (search rules) (search rules) (search rules);
@@ -14,4 +14,4 @@ loop-at-preserved c = record {
 }
 
 pub returns : goal.returns
-returns c = c.new.ensures ∙ plain_end c.args.how c.args.raw.now c.loop-at.units.items c.loop-at.at c.loop-at.invariant.so_far (omega arith)
+returns c = plain_end c.args.how c.args.raw.now c.loop-at.units c.loop-at.at c.loop-at.invariant.so_far (omega arith)

@@ -4,7 +4,7 @@ use Rattle.js_tokens.proofs.text.plain_units.Given as goal
 
 abbrev pub invariant-loop-at : goal.invariant-loop-at
 invariant-loop-at l = record {
-  so_far : plain_units l.how 0 l.raw ≡ l.units.items ++ plain_units l.how 0 (drop l.at l.raw);
+  so_far : plain_units l.how 0 l.raw ≡ l.units ++ plain_units l.how 0 (drop l.at l.raw);
   within : l.at ≤ length l.raw;
 }
 
