@@ -1,4 +1,3 @@
 pub mod Callable
 pub mod Looks
 pub mod Refusals
-pub mod Seats

@@ -7,11 +7,13 @@ use crate::grammar::Grammar;
 use crate::grown::{Children, Grown, Nature};
 use crate::look::second_is_mark;
 use crate::reader::Reader;
+use crate::reading::MOST_LEVELS;
 use crate::tokens::{expect_mark, same_line};
 use crate::want::{Context, Want};
 use js_forms::{Category, Flow, Form, Link, List, Place, Scope};
 use js_lexer::Refusal;
 use js_tokens::Punctuator;
+use pattern_cover::Unfit;
 use std::alloc::Global;
 
 /// What stands in parentheses, without the closing one.
@@ -137,7 +139,7 @@ impl<F: Fn(Global, &mut Reader<'_>, u32, Want) -> Result<Grown, Refusal>> Gramma
             return Err(reader.cursor.refuse());
         }
         let Children { places, nature } = covers;
-        match crate::cover::parameters(self.alloc, places, &reader.marks) {
+        match pattern_cover::parameters(self.alloc, places, &reader.marks, MOST_LEVELS) {
             Ok(places) => Ok(Children {
                 places,
                 nature: Nature {
@@ -145,8 +147,8 @@ impl<F: Fn(Global, &mut Reader<'_>, u32, Want) -> Result<Grown, Refusal>> Gramma
                     ..nature
                 },
             }),
-            Err(crate::cover::Unfit::NoMemory) => Err(Refusal::NoMemory),
-            Err(crate::cover::Unfit::NoPattern) => Err(reader.cursor.refuse()),
+            Err(Unfit::NoMemory) => Err(Refusal::NoMemory),
+            Err(Unfit::NoPattern) => Err(reader.cursor.refuse()),
         }
     }
 

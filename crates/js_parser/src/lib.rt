@@ -6,7 +6,6 @@
 #![tactic(auto)]
 
 mod arrow;
-mod cover;
 mod expression;
 mod for_head;
 mod grammar;

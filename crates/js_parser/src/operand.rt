@@ -4,17 +4,18 @@ ghost use Rattle.std.specs.Prelude.{◌≡◌};
 ghost use Rattle.js_parser.specs.Callable.{Callable};
 ghost use Rattle.js_parser.specs.Looks as spec;
 
-use crate::cover::{Unfit, to_pattern};
 use crate::grammar::Grammar;
 use crate::grown::{Children, Grown, Nature, Parts};
 use crate::look::{
     begins_template, is_mark, is_name, is_word, operand_form, second, second_is_mark,
 };
 use crate::reader::Reader;
+use crate::reading::MOST_LEVELS;
 use crate::want::{Context, Want};
 use js_forms::{Category, Flow, Form, Operator, level, parts};
 use js_lexer::{Cursor, Refusal};
 use js_tokens::{Goal, Punctuator, TokenKind, Word};
+use pattern_cover::{Unfit, to_pattern};
 use std::alloc::Global;
 
 /// Whether it is an expression with `??`, in no parentheses.
@@ -154,8 +155,8 @@ impl<F: Fn(Global, &mut Reader<'_>, u32, Want) -> Result<Grown, Refusal>> Gramma
             grouped,
             nature,
         } = cover;
-        let pattern = to_pattern(self.alloc, Box::into_inner(tree), binding, &reader.marks);
-        let tree = match pattern {
+        let tree = Box::into_inner(tree);
+        let tree = match to_pattern(self.alloc, tree, binding, &reader.marks, MOST_LEVELS) {
             Ok(tree) => tree.boxed(self.alloc)?,
             Err(Unfit::NoMemory) => return Err(Refusal::NoMemory),
             Err(Unfit::NoPattern) => return Err(reader.cursor.refuse()),

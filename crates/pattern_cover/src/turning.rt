@@ -1,11 +1,12 @@
 //! Expressions that turn out to be patterns: the tokens are the same, the kinds are others.
 
-ghost use Rattle.std.specs.Prelude.{◌≡◌};
-ghost use Rattle.js_parser.specs.Callable.{Convertible};
-ghost use Rattle.js_parser.specs.Seats as spec;
+ghost use Rattle.std.specs.Prelude.{◌≡◌, map, reverse, IfOk};
+ghost use Rattle.pattern_cover.specs.Convertible.{Convertible};
+ghost use Rattle.pattern_cover.specs.Frame.{frame, framed, frame_slots, frame_places, frame_row, frame_spot};
+ghost use Rattle.pattern_cover.specs.Seats as spec;
+ghost use Rattle.tree_core.specs.View.{syntax, slot_view, place_view, slots_of, places_of};
 
-use crate::reader::Marks;
-use crate::reading::MOST_LEVELS;
+use crate::marks::Marks;
 use sqlite_items::Items;
 use std::alloc::{AllocError, Global};
 use tree_core::{Place, Scalar, Scalars, Slot, Tree};
@@ -20,7 +21,7 @@ pub enum Unfit {
 
 impl From<AllocError> for Unfit {
     ghost use Rattle.std.specs.Prelude.{◌≡◌};
-    ghost use Rattle.js_parser.specs.declared.cover.Unfit.TheVariants.{NoMemory};
+    ghost use Rattle.pattern_cover.specs.declared.turning.Unfit.TheVariants.{NoMemory};
 
     ghost from_gives = { λ _ e. e ≡ NoMemory };
 
@@ -46,7 +47,7 @@ pub enum Seat {
 
 /// What turns trees into patterns, over the function that does so with the trees below.
 #[derive(Clone, Copy)]
-struct Turning<'m, F> {
+pub struct Turning<'m, F> {
     alloc: Global,
     /// Whether the pattern declares its names.
     binding: bool,
@@ -129,16 +130,29 @@ fn seat_of(kind: Kind, last: bool) -> Seat {
     }
 }
 
+// The places in the other order.
+fn reversed(alloc: Global, mut places: Items<Place>) -> Result<Items<Place>, Unfit>
+    ensures { IfOk result (λ all. reverse all ≡ places) }
+{
+    let mut all = Items::new(alloc);
+    while let Some(place) = places.pop() {
+        all.push(place)?;
+    }
+    Ok(all)
+}
+
 impl<'m, F: Fn(Global, Tree, bool, &Marks, u32, Seat) -> Result<Tree, Unfit>> Turning<'m, F> {
     // The tree as its seat wants it.
     fn turned(&self, tree: Tree, seat: Seat) -> Result<Tree, Unfit>
-        requires { Convertible self.now.depth (F.pre self.now.turn) }
+        requires { Convertible self.now.depth (F.pre self.now.turn) (F.post self.now.turn) }
+        ensures frame { IfOk result (λ pattern. frame (syntax pattern) ≡ frame (syntax tree)) }
     {
         (self.turn)(self.alloc, tree, self.binding, self.marks, self.depth, seat)
     }
 
     fn place(&self, place: Place, seat: Seat) -> Result<Place, Unfit>
-        requires { Convertible self.now.depth (F.pre self.now.turn) }
+        requires { Convertible self.now.depth (F.pre self.now.turn) (F.post self.now.turn) }
+        ensures frame { IfOk result (λ made. frame_spot (place_view made) ≡ frame_spot (place_view place)) }
     {
         let Place { name, node } = place;
         let Some(node) = node else {
@@ -149,36 +163,24 @@ impl<'m, F: Fn(Global, Tree, bool, &Marks, u32, Seat) -> Result<Tree, Unfit>> Tu
         Ok(Place { name, node })
     }
 
-    // The items of a pattern of the kind, from the last to the first.
-    fn backwards(&self, mut places: Items<Place>, kind: Kind) -> Result<Items<Place>, Unfit>
-        requires { Convertible self.now.depth (F.pre self.now.turn) }
+    // The items of a pattern of the kind.
+    fn places(&self, places: Items<Place>, kind: Kind) -> Result<Items<Place>, Unfit>
+        requires { Convertible self.now.depth (F.pre self.now.turn) (F.post self.now.turn) }
+        ensures frames { IfOk result (λ all. map frame_spot (map place_view all) ≡ map frame_spot (map place_view places)) }
+        ensures list { IfOk result (λ all. frame_places (places_of (map place_view all)) ≡ frame_places (places_of (map place_view places))) }
     {
+        let mut waiting = reversed(self.alloc, places)?;
         let mut turned = Items::new(self.alloc);
-        let mut last = true;
-        for _turn in 0..places.len() {
-            if let Some(place) = places.pop() {
-                turned.push(self.place(place, seat_of(kind, last))?)?;
-                last = false;
-            }
+        while let Some(place) = waiting.pop() {
+            let seat = seat_of(kind, waiting.is_empty());
+            turned.push(self.place(place, seat)?)?;
         }
         Ok(turned)
     }
 
-    fn places(&self, places: Items<Place>, kind: Kind) -> Result<Items<Place>, Unfit>
-        requires { Convertible self.now.depth (F.pre self.now.turn) }
-    {
-        let mut turned = self.backwards(places, kind)?;
-        let mut back = Items::new(self.alloc);
-        for _turn in 0..turned.len() {
-            if let Some(place) = turned.pop() {
-                back.push(place)?;
-            }
-        }
-        Ok(back)
-    }
-
     fn slot(&self, slot: Slot, kind: Kind, seat: Seat) -> Result<Slot, Unfit>
-        requires { Convertible self.now.depth (F.pre self.now.turn) }
+        requires { Convertible self.now.depth (F.pre self.now.turn) (F.post self.now.turn) }
+        ensures frame { IfOk result (λ made. frame_row (slot_view made) ≡ frame_row (slot_view slot)) }
     {
         match slot {
             Slot::Single(place) => Ok(Slot::Single(self.place(place, seat)?)),
@@ -193,7 +195,8 @@ impl<'m, F: Fn(Global, Tree, bool, &Marks, u32, Seat) -> Result<Tree, Unfit>> Tu
         kind: Kind,
         seat: Seat,
     ) -> Result<Items<Slot>, Unfit>
-        requires { Convertible self.now.depth (F.pre self.now.turn) }
+        requires { Convertible self.now.depth (F.pre self.now.turn) (F.post self.now.turn) }
+        ensures frames { IfOk result (λ all. map frame_row (map slot_view all) ≡ map frame_row (map slot_view slots)) }
     {
         if let Some(slot) = slots.pop() {
             slots.push(self.slot(slot, kind, seat)?)?;
@@ -208,7 +211,8 @@ impl<'m, F: Fn(Global, Tree, bool, &Marks, u32, Seat) -> Result<Tree, Unfit>> Tu
         kind: Kind,
         seat: Seat,
     ) -> Result<Items<Slot>, Unfit>
-        requires { Convertible self.now.depth (F.pre self.now.turn) }
+        requires { Convertible self.now.depth (F.pre self.now.turn) (F.post self.now.turn) }
+        ensures frames { IfOk result (λ all. map frame_row (map slot_view all) ≡ map frame_row (map slot_view slots)) }
     {
         let Some(right) = slots.pop() else {
             return Ok(slots);
@@ -220,7 +224,8 @@ impl<'m, F: Fn(Global, Tree, bool, &Marks, u32, Seat) -> Result<Tree, Unfit>> Tu
 
     // The node of the kind with these scalars, its last slot turned.
     fn over_last(&self, tree: Tree, kind: Kind, scalars: Scalars, seat: Seat) -> Result<Tree, Unfit>
-        requires { Convertible self.now.depth (F.pre self.now.turn) }
+        requires { Convertible self.now.depth (F.pre self.now.turn) (F.post self.now.turn) }
+        ensures frame { IfOk result (λ pattern. frame (syntax pattern) ≡ frame (syntax tree)) }
     {
         let Tree { slots, from, .. } = tree;
         let slots = self.last_slot(slots, kind, seat)?;
@@ -235,14 +240,17 @@ impl<'m, F: Fn(Global, Tree, bool, &Marks, u32, Seat) -> Result<Tree, Unfit>> Tu
         scalars: Scalars,
         seat: Seat,
     ) -> Result<Tree, Unfit>
-        requires { Convertible self.now.depth (F.pre self.now.turn) }
+        requires { Convertible self.now.depth (F.pre self.now.turn) (F.post self.now.turn) }
+        ensures frame { IfOk result (λ pattern. frame (syntax pattern) ≡ frame (syntax tree)) }
     {
         let Tree { slots, from, .. } = tree;
         let slots = self.first_slot(slots, kind, seat)?;
         Ok(self.made(kind, scalars, slots, from))
     }
 
-    fn made(&self, kind: Kind, scalars: Scalars, slots: Items<Slot>, from: Option<u32>) -> Tree {
+    fn made(&self, kind: Kind, scalars: Scalars, slots: Items<Slot>, from: Option<u32>) -> Tree
+        ensures { frame (syntax result) ≡ framed from (frame_slots (slots_of (map slot_view slots))) }
+    {
         let mut tree = Tree::new(kind.number(), scalars, slots);
         tree.from = from;
         tree
@@ -250,7 +258,8 @@ impl<'m, F: Fn(Global, Tree, bool, &Marks, u32, Seat) -> Result<Tree, Unfit>> Tu
 
     // A property of an object pattern.
     fn property(&self, tree: Tree) -> Result<Tree, Unfit>
-        requires { Convertible self.now.depth (F.pre self.now.turn) }
+        requires { Convertible self.now.depth (F.pre self.now.turn) (F.post self.now.turn) }
+        ensures frame { IfOk result (λ pattern. frame (syntax pattern) ≡ frame (syntax tree)) }
     {
         if !is_plain_property(&tree) {
             return Err(Unfit::NoPattern);
@@ -260,7 +269,8 @@ impl<'m, F: Fn(Global, Tree, bool, &Marks, u32, Seat) -> Result<Tree, Unfit>> Tu
     }
 
     fn assigned_property(&self, tree: Tree, shorthand: bool, computed: bool) -> Result<Tree, Unfit>
-        requires { Convertible self.now.depth (F.pre self.now.turn) }
+        requires { Convertible self.now.depth (F.pre self.now.turn) (F.post self.now.turn) }
+        ensures frame { IfOk result (λ pattern. frame (syntax pattern) ≡ frame (syntax tree)) }
     {
         let scalars = Scalars::one(Scalar::Truth(shorthand)).with(
             self.alloc,
@@ -271,7 +281,8 @@ impl<'m, F: Fn(Global, Tree, bool, &Marks, u32, Seat) -> Result<Tree, Unfit>> Tu
 
     // The rest of a pattern: it is the last, and no comma follows.
     fn rest(&self, tree: Tree, seat: Seat) -> Result<Tree, Unfit>
-        requires { Convertible self.now.depth (F.pre self.now.turn) }
+        requires { Convertible self.now.depth (F.pre self.now.turn) (F.post self.now.turn) }
+        ensures frame { IfOk result (λ pattern. frame (syntax pattern) ≡ frame (syntax tree)) }
     {
         if !is_last(seat) || self.marks.has_comma(&tree) {
             return Err(Unfit::NoPattern);
@@ -285,7 +296,8 @@ impl<'m, F: Fn(Global, Tree, bool, &Marks, u32, Seat) -> Result<Tree, Unfit>> Tu
     }
 
     fn list(&self, tree: Tree, kind: Kind, seat: Seat) -> Result<Tree, Unfit>
-        requires { Convertible self.now.depth (F.pre self.now.turn) }
+        requires { Convertible self.now.depth (F.pre self.now.turn) (F.post self.now.turn) }
+        ensures frame { IfOk result (λ pattern. frame (syntax pattern) ≡ frame (syntax tree)) }
     {
         if !takes_pattern(seat) || self.marks.is_grouped(&tree) {
             return Err(Unfit::NoPattern);
@@ -294,7 +306,8 @@ impl<'m, F: Fn(Global, Tree, bool, &Marks, u32, Seat) -> Result<Tree, Unfit>> Tu
     }
 
     fn defaulted(&self, tree: Tree, seat: Seat) -> Result<Tree, Unfit>
-        requires { Convertible self.now.depth (F.pre self.now.turn) }
+        requires { Convertible self.now.depth (F.pre self.now.turn) (F.post self.now.turn) }
+        ensures frame { IfOk result (λ pattern. frame (syntax pattern) ≡ frame (syntax tree)) }
     {
         if !takes_default(seat) || self.marks.is_grouped(&tree) {
             return Err(Unfit::NoPattern);
@@ -303,7 +316,9 @@ impl<'m, F: Fn(Global, Tree, bool, &Marks, u32, Seat) -> Result<Tree, Unfit>> Tu
     }
 
     // A name or a member.
-    fn simple(&self, tree: Tree, seat: Seat, fits: bool) -> Result<Tree, Unfit> {
+    fn simple(&self, tree: Tree, seat: Seat, fits: bool) -> Result<Tree, Unfit>
+        ensures frame { IfOk result (λ pattern. frame (syntax pattern) ≡ frame (syntax tree)) }
+    {
         if fits && !is_property(seat) {
             return Ok(tree);
         }
@@ -311,7 +326,8 @@ impl<'m, F: Fn(Global, Tree, bool, &Marks, u32, Seat) -> Result<Tree, Unfit>> Tu
     }
 
     fn whole(&self, tree: Tree, seat: Seat) -> Result<Tree, Unfit>
-        requires { Convertible self.now.depth (F.pre self.now.turn) }
+        requires { Convertible self.now.depth (F.pre self.now.turn) (F.post self.now.turn) }
+        ensures frame { IfOk result (λ pattern. frame (syntax pattern) ≡ frame (syntax tree)) }
     {
         let Some(kind) = Kind::from_number(tree.kind) else {
             return Err(Unfit::NoPattern);
@@ -359,7 +375,9 @@ fn turn(
     marks: &Marks,
     depth: u32,
     seat: Seat,
-) -> Result<Tree, Unfit> {
+) -> Result<Tree, Unfit>
+    ensures frame { IfOk result (λ pattern. frame (syntax pattern) ≡ frame (syntax tree)) }
+{
     if depth == 0 {
         return Err(Unfit::NoPattern);
     }
@@ -374,22 +392,37 @@ fn turn(
     .whole(tree, seat)
 }
 
-/// The pattern that the tokens of an array or an object spell. With `binding` it declares its names.
-pub fn to_pattern(alloc: Global, tree: Tree, binding: bool, marks: &Marks) -> Result<Tree, Unfit> {
-    turn(alloc, tree, binding, marks, MOST_LEVELS, Seat::Whole)
+/// The pattern that the tokens of an array or an object spell; with `binding` it declares its names.
+/// Each node keeps its number and its place. Where no pattern is spelled, or more than `levels` of
+/// its nodes nest, it is refused.
+pub fn to_pattern(
+    alloc: Global,
+    tree: Tree,
+    binding: bool,
+    marks: &Marks,
+    levels: u32,
+) -> Result<Tree, Unfit>
+    ensures frame { IfOk result (λ pattern. frame (syntax pattern) ≡ frame (syntax tree)) }
+{
+    turn(alloc, tree, binding, marks, levels, Seat::Whole)
 }
 
-/// The parameters that the tokens of these expressions spell.
+/// The parameters that the tokens of these expressions spell. Each node keeps its number and its
+/// place. Where no parameters are spelled, or more than `levels` of the nodes of one nest, they are
+/// refused.
 pub fn parameters(
     alloc: Global,
     places: Items<Place>,
     marks: &Marks,
-) -> Result<Items<Place>, Unfit> {
+    levels: u32,
+) -> Result<Items<Place>, Unfit>
+    ensures frames { IfOk result (λ all. map frame_spot (map place_view all) ≡ map frame_spot (map place_view places)) }
+{
     Turning {
         alloc,
         binding: true,
         marks,
-        depth: MOST_LEVELS,
+        depth: levels,
         turn,
     }
     .places(places, Kind::ArrayPattern)

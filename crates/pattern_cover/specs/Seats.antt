@@ -1,7 +1,7 @@
 -- What may stand at a place in a pattern (ECMA-262, clauses 13.15.5 and 14.3.3).
 use Rattle.std.specs.Prelude.{Bool, true, false}
-use Rattle.js_parser.specs.declared.cover.Seat.{Seat}
-use Rattle.js_parser.specs.declared.cover.Seat.TheVariants.{Whole, Simple, Value, Element, Property}
+use Rattle.pattern_cover.specs.declared.turning.Seat.{Seat}
+use Rattle.pattern_cover.specs.declared.turning.Seat.TheVariants.{Whole, Value, Element, Property}
 
 abbrev pub is_last : Seat → Bool
 is_last (Element last) = last

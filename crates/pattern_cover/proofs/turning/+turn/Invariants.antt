@@ -1,4 +1,4 @@
-use Rattle.js_parser.proofs.cover.+turn.Given as goal
+use Rattle.pattern_cover.proofs.turning.+turn.Given as goal
 
 abbrev pub decreases-turn : goal.decreases-turn
 decreases-turn l = l.depth

@@ -1,0 +1,3 @@
+pub mod Convertible
+pub mod Frame
+pub mod Seats

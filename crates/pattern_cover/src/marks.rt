@@ -1,0 +1,78 @@
+//! What is remembered of expressions that may be patterns.
+
+use sqlite_items::Items;
+use std::alloc::{AllocError, Global};
+use tree_core::Tree;
+
+/// What a tree does not tell of an expression: its nodes that stand in grouping parentheses, and the
+/// spreads with a comma behind them, by their numbers in rising order.
+#[derive(Drop)]
+pub struct Marks {
+    grouped: Items<u32>,
+    commas: Items<u32>,
+}
+
+// Whether the number is among these, which rise.
+fn is_among(numbers: &[u32], number: u32) -> bool {
+    let mut from = 0;
+    let mut to = numbers.len();
+    for _turn in 0..64 {
+        if from >= to || to > numbers.len() {
+            return false;
+        }
+        let middle = from + (to - from) / 2;
+        let found = numbers[middle];
+        if found == number {
+            return true;
+        }
+        if found < number {
+            from = middle + 1;
+        } else {
+            to = middle;
+        }
+    }
+    false
+}
+
+fn is_marked(numbers: &Items<u32>, tree: &Tree) -> bool {
+    match tree.from {
+        Some(number) => is_among(numbers.as_slice(), number),
+        None => false,
+    }
+}
+
+impl Marks {
+    /// No node is marked.
+    pub fn new(alloc: Global) -> Marks {
+        Marks {
+            grouped: Items::new(alloc),
+            commas: Items::new(alloc),
+        }
+    }
+
+    /// Whether the node stands in grouping parentheses.
+    pub fn is_grouped(&self, tree: &Tree) -> bool {
+        is_marked(&self.grouped, tree)
+    }
+
+    /// Whether a comma follows the spread.
+    pub fn has_comma(&self, tree: &Tree) -> bool {
+        is_marked(&self.commas, tree)
+    }
+
+    /// Marks a node in grouping parentheses. Its number is not below those of the nodes marked before.
+    pub fn mark_grouped(&mut self, tree: &Tree) -> Result<(), AllocError> {
+        if let Some(number) = tree.from {
+            self.grouped.push(number)?;
+        }
+        Ok(())
+    }
+
+    /// Marks a spread with a comma behind it. Its number is not below those of the spreads marked before.
+    pub fn mark_comma(&mut self, tree: &Tree) -> Result<(), AllocError> {
+        if let Some(number) = tree.from {
+            self.commas.push(number)?;
+        }
+        Ok(())
+    }
+}
