@@ -1,10 +1,13 @@
 //! Expressions that turn out to be patterns: the tokens are the same, the kinds are others.
 
-ghost use Rattle.std.specs.Prelude.{◌≡◌, map, reverse, IfOk};
+ghost use Rattle.std.specs.Prelude.{◌≡◌, map, reverse, Some, IfOk};
 ghost use Rattle.pattern_cover.specs.Convertible.{Convertible};
 ghost use Rattle.pattern_cover.specs.Frame.{frame, framed, frame_slots, frame_places, frame_row, frame_spot};
+ghost use Rattle.pattern_cover.specs.Kinds.{pattern_number};
 ghost use Rattle.pattern_cover.specs.Seats as spec;
 ghost use Rattle.tree_core.specs.View.{syntax, slot_view, place_view, slots_of, places_of};
+ghost use Rattle.type_defs.specs.Kinds.{number_of};
+ghost use Rattle.type_defs.specs.declared.kind.Kind.TheVariants as k;
 
 use crate::marks::Marks;
 use sqlite_items::Items;
@@ -226,6 +229,7 @@ impl<'m, F: Fn(Global, Tree, bool, &Marks, u32, Seat) -> Result<Tree, Unfit>> Tu
     fn over_last(&self, tree: Tree, kind: Kind, scalars: Scalars, seat: Seat) -> Result<Tree, Unfit>
         requires { Convertible self.now.depth (F.pre self.now.turn) (F.post self.now.turn) }
         ensures frame { IfOk result (λ pattern. frame (syntax pattern) ≡ frame (syntax tree)) }
+        ensures kind { IfOk result (λ pattern. pattern.kind ≡ number_of kind) }
     {
         let Tree { slots, from, .. } = tree;
         let slots = self.last_slot(slots, kind, seat)?;
@@ -242,6 +246,7 @@ impl<'m, F: Fn(Global, Tree, bool, &Marks, u32, Seat) -> Result<Tree, Unfit>> Tu
     ) -> Result<Tree, Unfit>
         requires { Convertible self.now.depth (F.pre self.now.turn) (F.post self.now.turn) }
         ensures frame { IfOk result (λ pattern. frame (syntax pattern) ≡ frame (syntax tree)) }
+        ensures kind { IfOk result (λ pattern. pattern.kind ≡ number_of kind) }
     {
         let Tree { slots, from, .. } = tree;
         let slots = self.first_slot(slots, kind, seat)?;
@@ -249,7 +254,8 @@ impl<'m, F: Fn(Global, Tree, bool, &Marks, u32, Seat) -> Result<Tree, Unfit>> Tu
     }
 
     fn made(&self, kind: Kind, scalars: Scalars, slots: Items<Slot>, from: Option<u32>) -> Tree
-        ensures { frame (syntax result) ≡ framed from (frame_slots (slots_of (map slot_view slots))) }
+        ensures frame { frame (syntax result) ≡ framed from (frame_slots (slots_of (map slot_view slots))) }
+        ensures kind { result.kind ≡ number_of kind }
     {
         let mut tree = Tree::new(kind.number(), scalars, slots);
         tree.from = from;
@@ -260,6 +266,7 @@ impl<'m, F: Fn(Global, Tree, bool, &Marks, u32, Seat) -> Result<Tree, Unfit>> Tu
     fn property(&self, tree: Tree) -> Result<Tree, Unfit>
         requires { Convertible self.now.depth (F.pre self.now.turn) (F.post self.now.turn) }
         ensures frame { IfOk result (λ pattern. frame (syntax pattern) ≡ frame (syntax tree)) }
+        ensures kind { IfOk result (λ pattern. pattern.kind ≡ number_of k.AssignmentProperty) }
     {
         if !is_plain_property(&tree) {
             return Err(Unfit::NoPattern);
@@ -271,6 +278,7 @@ impl<'m, F: Fn(Global, Tree, bool, &Marks, u32, Seat) -> Result<Tree, Unfit>> Tu
     fn assigned_property(&self, tree: Tree, shorthand: bool, computed: bool) -> Result<Tree, Unfit>
         requires { Convertible self.now.depth (F.pre self.now.turn) (F.post self.now.turn) }
         ensures frame { IfOk result (λ pattern. frame (syntax pattern) ≡ frame (syntax tree)) }
+        ensures kind { IfOk result (λ pattern. pattern.kind ≡ number_of k.AssignmentProperty) }
     {
         let scalars = Scalars::one(Scalar::Truth(shorthand)).with(
             self.alloc,
@@ -283,6 +291,7 @@ impl<'m, F: Fn(Global, Tree, bool, &Marks, u32, Seat) -> Result<Tree, Unfit>> Tu
     fn rest(&self, tree: Tree, seat: Seat) -> Result<Tree, Unfit>
         requires { Convertible self.now.depth (F.pre self.now.turn) (F.post self.now.turn) }
         ensures frame { IfOk result (λ pattern. frame (syntax pattern) ≡ frame (syntax tree)) }
+        ensures kind { IfOk result (λ pattern. pattern.kind ≡ number_of k.RestElement) }
     {
         if !is_last(seat) || self.marks.has_comma(&tree) {
             return Err(Unfit::NoPattern);
@@ -298,6 +307,7 @@ impl<'m, F: Fn(Global, Tree, bool, &Marks, u32, Seat) -> Result<Tree, Unfit>> Tu
     fn list(&self, tree: Tree, kind: Kind, seat: Seat) -> Result<Tree, Unfit>
         requires { Convertible self.now.depth (F.pre self.now.turn) (F.post self.now.turn) }
         ensures frame { IfOk result (λ pattern. frame (syntax pattern) ≡ frame (syntax tree)) }
+        ensures kind { IfOk result (λ pattern. pattern.kind ≡ number_of kind) }
     {
         if !takes_pattern(seat) || self.marks.is_grouped(&tree) {
             return Err(Unfit::NoPattern);
@@ -308,6 +318,7 @@ impl<'m, F: Fn(Global, Tree, bool, &Marks, u32, Seat) -> Result<Tree, Unfit>> Tu
     fn defaulted(&self, tree: Tree, seat: Seat) -> Result<Tree, Unfit>
         requires { Convertible self.now.depth (F.pre self.now.turn) (F.post self.now.turn) }
         ensures frame { IfOk result (λ pattern. frame (syntax pattern) ≡ frame (syntax tree)) }
+        ensures kind { IfOk result (λ pattern. pattern.kind ≡ number_of k.AssignmentPattern) }
     {
         if !takes_default(seat) || self.marks.is_grouped(&tree) {
             return Err(Unfit::NoPattern);
@@ -318,6 +329,7 @@ impl<'m, F: Fn(Global, Tree, bool, &Marks, u32, Seat) -> Result<Tree, Unfit>> Tu
     // A name or a member.
     fn simple(&self, tree: Tree, seat: Seat, fits: bool) -> Result<Tree, Unfit>
         ensures frame { IfOk result (λ pattern. frame (syntax pattern) ≡ frame (syntax tree)) }
+        ensures kind { IfOk result (λ pattern. pattern.kind ≡ tree.kind) }
     {
         if fits && !is_property(seat) {
             return Ok(tree);
@@ -328,6 +340,7 @@ impl<'m, F: Fn(Global, Tree, bool, &Marks, u32, Seat) -> Result<Tree, Unfit>> Tu
     fn whole(&self, tree: Tree, seat: Seat) -> Result<Tree, Unfit>
         requires { Convertible self.now.depth (F.pre self.now.turn) (F.post self.now.turn) }
         ensures frame { IfOk result (λ pattern. frame (syntax pattern) ≡ frame (syntax tree)) }
+        ensures kind { IfOk result (λ pattern. pattern_number tree.kind ≡ Some pattern.kind) }
     {
         let Some(kind) = Kind::from_number(tree.kind) else {
             return Err(Unfit::NoPattern);
@@ -377,6 +390,7 @@ fn turn(
     seat: Seat,
 ) -> Result<Tree, Unfit>
     ensures frame { IfOk result (λ pattern. frame (syntax pattern) ≡ frame (syntax tree)) }
+    ensures kind { IfOk result (λ pattern. pattern_number tree.kind ≡ Some pattern.kind) }
 {
     if depth == 0 {
         return Err(Unfit::NoPattern);
@@ -403,6 +417,7 @@ pub fn to_pattern(
     levels: u32,
 ) -> Result<Tree, Unfit>
     ensures frame { IfOk result (λ pattern. frame (syntax pattern) ≡ frame (syntax tree)) }
+    ensures kind { IfOk result (λ pattern. pattern_number tree.kind ≡ Some pattern.kind) }
 {
     turn(alloc, tree, binding, marks, levels, Seat::Whole)
 }
