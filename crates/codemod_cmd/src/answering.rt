@@ -74,19 +74,6 @@ fn of_first(
     }
 }
 
-// Frees what was read. The stretches go before the nodes: when a large block is freed, the allocator
-// of the C library gathers all small ones that were freed before it.
-fn let_go(parsed: Parsed) {
-    let Parsed {
-        spans,
-        comments,
-        tree,
-    } = parsed;
-    drop(spans);
-    drop(comments);
-    drop(tree);
-}
-
 // What comes of another source.
 #[tactic(auto, using(crate::proofs::Refusals::other_refused))]
 fn of_other(alloc: Global, source: Source, change: &Transform) -> Result<Outcome, AllocError>
@@ -100,15 +87,8 @@ fn of_other(alloc: Global, source: Source, change: &Transform) -> Result<Outcome
         Err(Refusal::NoMemory) => return Err(AllocError),
     };
     match change {
-        Transform::Print => {
-            let_go(parsed);
-            Ok(printed(source))
-        }
-        Transform::Rename(names) => {
-            let outcome = rewritten(alloc, &source, &parsed, names)?;
-            let_go(parsed);
-            Ok(outcome)
-        }
+        Transform::Print => Ok(printed(source)),
+        Transform::Rename(names) => rewritten(alloc, &source, &parsed, names),
     }
 }
 
