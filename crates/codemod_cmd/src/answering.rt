@@ -8,6 +8,7 @@ ghost use Rattle.codemod_cmd.specs.FileAnswer.{FileAnswer, IsSource, IsTreeOf, I
 ghost use Rattle.codemod_cmd.specs.Readings.{IsReading};
 
 use crate::engine::{Engine, Outcome};
+use crate::freeing::let_go;
 use crate::renaming::{renamed, rewritten};
 use crate::transform::Transform;
 use cm_text::{Source, TextFault};
@@ -87,8 +88,15 @@ fn of_other(alloc: Global, source: Source, change: &Transform) -> Result<Outcome
         Err(Refusal::NoMemory) => return Err(AllocError),
     };
     match change {
-        Transform::Print => Ok(printed(source)),
-        Transform::Rename(names) => rewritten(alloc, &source, &parsed, names),
+        Transform::Print => {
+            let_go(alloc, parsed);
+            Ok(printed(source))
+        }
+        Transform::Rename(names) => {
+            let outcome = rewritten(alloc, &source, &parsed, names)?;
+            let_go(alloc, parsed);
+            Ok(outcome)
+        }
     }
 }
 

@@ -8,6 +8,7 @@ mod answering;
 mod engine;
 mod file_row;
 mod folder;
+mod freeing;
 mod job;
 mod reading;
 mod renaming;

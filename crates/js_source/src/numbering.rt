@@ -268,7 +268,7 @@ fn number_places(
     ensures refused { IfErr result (RefusedWithin parent.span.end) }
 {
     let count = places.len();
-    waiting.take_places(given.alloc, places)?;
+    waiting.take_places(places)?;
     let mut child = first;
     for _turn in 0..count {
         let Some(place) = waiting.next_place() else {

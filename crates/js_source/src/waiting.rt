@@ -7,9 +7,6 @@ use sqlite_items::Items;
 use std::alloc::{AllocError, Global};
 use tree_core::{Place, Slot};
 
-/// The most places of a list that is no large block to the allocator of the C library (64 kB).
-const FEW: usize = 1024;
-
 // Moves the items onto the others, the last first.
 fn moved<T: Drop>(from: &mut Items<T>, onto: &mut Items<T>) -> Result<(), AllocError>
     ensures { IfOk result (λ _. from.new ≡ []) }
@@ -41,23 +38,11 @@ impl Waiting {
         moved(slots, &mut self.slots)
     }
 
-    /// Takes the places, of which the first comes first, and leaves none. A long list, which grew by
-    /// doubling, is taken anew at its size, so that fewer lists are large blocks: when one is freed, the
-    /// allocator gathers all small ones that were freed before it, the nodes in it among them.
-    pub fn take_places(
-        &mut self,
-        alloc: Global,
-        places: &mut Items<Place>,
-    ) -> Result<(), AllocError>
+    /// Takes the places, of which the first comes first, and leaves none.
+    pub fn take_places(&mut self, places: &mut Items<Place>) -> Result<(), AllocError>
         ensures { IfOk result (λ _. places.new ≡ []) }
     {
-        let count = places.len();
-        moved(places, &mut self.places)?;
-        if count > FEW {
-            *places = Items::new(alloc);
-            *places = Items::from_vec(Vec::with_capacity(alloc, count)?);
-        }
-        Ok(())
+        moved(places, &mut self.places)
     }
 
     pub fn next_slot(&mut self) -> Option<Slot> {
