@@ -1,5 +1,6 @@
 -- How many nodes and places there are after a change.
 use Rattle.std.proofs.Common.{◌≡◌, ◌≢◌, ◌∙◌, refl, ℕ, ◌+◌, ◌≤◌, List, [], ◌∷◌, length, Option, Some, None, arith, length-append}
+use Rattle.type_defs.specs.declared.kind.Kind.{Kind}
 use Rattle.type_defs.specs.Fields.{lists_at}
 use Rattle.node_arena.specs.Rows.{new_node, standing_at}
 use Rattle.node_arena.specs.Lists.{insert_after}
@@ -20,10 +21,10 @@ put_nodes F p j = length_edit (clear_of F p).nodes j (standing_at (Some p)) ∙ 
 pub put_places : (F : Forest) (p j : ℕ) → length (put_of F p j).places ≡ length F.places
 put_places F p j = length_edit (clear_of F p).places p (holding (Some j)) ∙ places_cleared F p (node_at F p)
 
-pub make_nodes : (F : Forest) (kind : ℕ) → length (make_of F kind).nodes ≡ length F.nodes + 1
+pub make_nodes : (F : Forest) (kind : Kind) → length (make_of F kind).nodes ≡ length F.nodes + 1
 make_nodes F kind = length-append F.nodes (new_node kind (length F.slots) ∷ [])
 
-pub make_places : (F : Forest) (kind : ℕ) → length F.places ≤ length (make_of F kind).places
+pub make_places : (F : Forest) (kind : Kind) → length F.places ≤ length (make_of F kind).places
 make_places F kind = let e = length-append F.places (new_places (length F.slots) (lists_at kind)) in omega arith
 
 pub first_places : (F : Forest) (s : ℕ) → length (insert_first_of F s None).places ≡ length F.places + 1

@@ -6,7 +6,7 @@ use tree_core::Address;
 /// Why a tree is not unloaded.
 #[derive(Debug, Drop)]
 pub enum UnloadFault {
-    /// A node stands deeper than `MOST_DEPTH`, the first node having depth 1: the first in preorder.
+    /// A node stands deeper than `MAX_DEPTH`, the first node having depth 1: the first in preorder.
     Deep { address: Address },
     /// The place is empty.
     Empty,

@@ -14,4 +14,4 @@ mod unloading;
 
 pub use fault::UnloadFault;
 pub use loading::load;
-pub use unloading::{MOST_DEPTH, unload};
+pub use unloading::{MAX_DEPTH, unload};

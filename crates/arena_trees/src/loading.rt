@@ -2,7 +2,7 @@
 
 ghost use Rattle.std.specs.Prelude.{◌≡◌, ◌<◌, ◌≤◌, length, IfOk, IfSome, OnErr};
 
-use crate::places::{MOST_SLOTS, make_at, make_places};
+use crate::places::{MAX_SLOTS, make_at, make_places};
 use crate::saying::say;
 use node_arena::{Arena, ArenaFault, NodeId, PlaceId};
 use std::alloc::Global;
@@ -57,7 +57,7 @@ fn load_slots(
     ensures places { length arena.old.forest.places ≤ length arena.new.forest.places }
 {
     for index in 0..slots.len() {
-        if index < MOST_SLOTS {
+        if index < MAX_SLOTS {
             let first = arena.slot_first(node, index as u8);
             load_slot(alloc, arena, &slots[index], first)?;
         }

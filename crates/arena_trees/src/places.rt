@@ -8,13 +8,13 @@ use node_arena::{Arena, ArenaFault, NodeId, PlaceId, Steps};
 use std::marker::Brand;
 use std::sync::ledger::{Blank, Ledger};
 use tree_core::{Place, Slot};
-use type_defs::is_list;
+use type_defs::{Kind, is_list};
 
 /// The most slots of a node.
-pub const MOST_SLOTS: usize = 4;
+pub const MAX_SLOTS: usize = 4;
 
 /// A new node of a kind in a place.
-pub fn make_at(arena: &mut Arena, kind: u8, place: PlaceId) -> Result<NodeId, ArenaFault>
+pub fn make_at(arena: &mut Arena, kind: Kind, place: PlaceId) -> Result<NodeId, ArenaFault>
     requires at { place < length arena.old.forest.places }
     ensures within { IfOk result (λ j. j < length arena.new.forest.nodes) }
     ensures nodes { length arena.old.forest.nodes ≤ length arena.new.forest.nodes }
@@ -26,7 +26,7 @@ pub fn make_at(arena: &mut Arena, kind: u8, place: PlaceId) -> Result<NodeId, Ar
 #[tactic(auto, using(crate::proofs::Growing::put_nodes, crate::proofs::Growing::put_places, crate::proofs::Growing::make_nodes, crate::proofs::Growing::make_places))]
 fn make_counted<L: Ledger>(
     arena: &mut Arena,
-    kind: u8,
+    kind: Kind,
     place: PlaceId,
     blank: Blank,
 ) -> Result<NodeId, ArenaFault>
@@ -51,7 +51,7 @@ pub fn make_places(arena: &mut Arena, node: NodeId, slots: &[Slot]) -> Result<()
     ensures places { length arena.old.forest.places ≤ length arena.new.forest.places }
 {
     for index in 0..slots.len() {
-        if index < MOST_SLOTS {
+        if index < MAX_SLOTS {
             make_slot(arena, node, index as u8, &slots[index])?;
         }
     }

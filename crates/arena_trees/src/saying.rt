@@ -4,10 +4,10 @@ ghost use Rattle.std.specs.Prelude.{◌≡◌, ◌<◌, length};
 
 use node_arena::{Arena, NodeId};
 use std::alloc::{AllocError, Global};
-use tree_core::{Scalars, Tree, copy_comments, copy_scalar};
+use tree_core::{Notes, Scalars, Tree, copy_comments, copy_scalar};
 use type_defs::scalar_count;
 
-/// Lets a node say what the tree's first node says.
+/// Lets a new node say what the tree's first node says.
 pub fn say(alloc: Global, arena: &mut Arena, node: NodeId, tree: &Tree) -> Result<(), AllocError>
     requires at { node < length arena.old.forest.nodes }
     ensures forest { arena.new.forest ≡ arena.old.forest }
@@ -15,11 +15,28 @@ pub fn say(alloc: Global, arena: &mut Arena, node: NodeId, tree: &Tree) -> Resul
     if let Some(from) = tree.from {
         arena.set_source(node, from);
     }
-    let lead = copy_comments(alloc, tree.notes.lead())?;
-    let trail = copy_comments(alloc, tree.notes.trail())?;
-    let inner = copy_comments(alloc, tree.notes.inner())?;
-    arena.set_comments(node, lead, trail, inner);
+    say_notes(alloc, arena, node, &tree.notes)?;
     say_scalars(alloc, arena, node, &tree.scalars)
+}
+
+/// Gives a new node its comments. Most nodes have none, as the new node has.
+fn say_notes(
+    alloc: Global,
+    arena: &mut Arena,
+    node: NodeId,
+    notes: &Notes,
+) -> Result<(), AllocError>
+    requires at { node < length arena.old.forest.nodes }
+    ensures forest { arena.new.forest ≡ arena.old.forest }
+{
+    if notes.lead().is_empty() && notes.trail().is_empty() && notes.inner().is_empty() {
+        return Ok(());
+    }
+    let lead = copy_comments(alloc, notes.lead())?;
+    let trail = copy_comments(alloc, notes.trail())?;
+    let inner = copy_comments(alloc, notes.inner())?;
+    arena.set_comments(node, lead, trail, inner);
+    Ok(())
 }
 
 fn say_scalars(

@@ -11,10 +11,10 @@ use type_defs::Kind;
 fn sample(alloc: Global) -> Result<Parsed, AllocError> {
     let text = Units::new(vec![in alloc; 97]?);
     let name = Scalars::one(Scalar::Text(text));
-    let name = Tree::new(Kind::Identifier.number(), name, Items::new(alloc));
+    let name = Tree::new(Kind::Identifier, name, Items::new(alloc));
     let mut slots = Items::new(alloc);
     slots.push(Slot::single(Place::filled(alloc, name)?))?;
-    let statement = Kind::ExpressionStatement.number();
+    let statement = Kind::ExpressionStatement;
     Ok(Parsed {
         tree: Tree::new(statement, Scalars::new(), slots),
         spans: Items::new(alloc),

@@ -14,7 +14,7 @@ use tree_core::{Address, Notes, Place, Slot, Steps32, Tree, copy_comments};
 use type_defs::{is_list, slot_count};
 
 /// The greatest depth of a node that is unloaded, the first node having depth 1.
-pub const MOST_DEPTH: u32 = 1000;
+pub const MAX_DEPTH: u32 = 1000;
 
 /// The node in a place with all that it holds, with its numbers and the names of its places.
 pub fn unload(alloc: Global, arena: &Arena, root: PlaceId) -> Result<Tree, UnloadFault>
@@ -26,7 +26,7 @@ pub fn unload(alloc: Global, arena: &Arena, root: PlaceId) -> Result<Tree, Unloa
         return Err(UnloadFault::Empty);
     };
     let mut path = Items::new(alloc);
-    unload_node(alloc, arena, node, MOST_DEPTH, &mut path)
+    unload_node(alloc, arena, node, MAX_DEPTH, &mut path)
 }
 
 /// The node that the path leads to, where it is no higher than so many levels.
@@ -49,8 +49,9 @@ fn unload_node(
         });
     }
     let mut child = 0;
-    let mut slots = Items::new(alloc);
-    for index in 0..slot_count(arena.kind(node)) {
+    let count = slot_count(arena.kind(node));
+    let mut slots = Items::from_vec(Vec::with_capacity(alloc, count)?);
+    for index in 0..count {
         let slot = unload_slot(
             alloc,
             arena,
@@ -71,15 +72,19 @@ fn unload_node(
     })
 }
 
-/// The comments of a node.
+/// The comments of a node. Most nodes have none.
 fn notes_of(alloc: Global, arena: &Arena, node: NodeId) -> Result<Notes, AllocError>
     requires at { node < length arena.now.forest.nodes }
 {
+    let (lead, trail, inner) = (arena.lead(node), arena.trail(node), arena.inner(node));
+    if lead.is_empty() && trail.is_empty() && inner.is_empty() {
+        return Ok(Notes::none());
+    }
     Notes::new(
         alloc,
-        copy_comments(alloc, arena.lead(node).as_slice())?,
-        copy_comments(alloc, arena.trail(node).as_slice())?,
-        copy_comments(alloc, arena.inner(node).as_slice())?,
+        copy_comments(alloc, lead.as_slice())?,
+        copy_comments(alloc, trail.as_slice())?,
+        copy_comments(alloc, inner.as_slice())?,
     )
 }
 
@@ -114,6 +119,20 @@ fn unload_slot(
     Ok(Slot::Single(place))
 }
 
+/// How many places a list has from the first on.
+fn list_length(arena: &Arena, first: Option<PlaceId>) -> usize
+    requires at { IfSome first (λ p. p < length arena.now.forest.places) }
+{
+    let mut at = first;
+    for turn in 0..arena.places() {
+        let Some(here) = at else {
+            return turn as usize;
+        };
+        at = arena.next(here);
+    }
+    0
+}
+
 /// The places of a list from the first on.
 #[tactic(auto, using(crate::proofs::Heights::places_more))]
 #[cycle(unload)]
@@ -129,7 +148,7 @@ fn unload_list(
     ensures height { IfOk result (λ ps. places_height (places_of (map place_view ps)) ≤ levels) }
     ensures filled { result ≢ Err UnloadFault.Empty }
 {
-    let mut places = Items::new(alloc);
+    let mut places = Items::from_vec(Vec::with_capacity(alloc, list_length(arena, first))?);
     let mut at = first;
     for _turn in 0..arena.places() {
         let Some(here) = at else {

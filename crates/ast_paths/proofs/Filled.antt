@@ -5,6 +5,7 @@ use Rattle.node_arena.proofs.Pushes.{append_old, before_end, item_at}
 use Rattle.node_arena.specs.Forest.{Forest, Place, at_slot, clear_of, cleared, empty_place, given, grown, holding, insert_after_of, insert_before_of, insert_first_of, list_at, make_of, new_places, node_at, node_of, put_of}
 use Rattle.node_arena.specs.Lists.{insert_after, insert_before}
 use Rattle.node_arena.specs.Store.{Store, reserved}
+use Rattle.type_defs.specs.declared.kind.Kind.{Kind}
 use Rattle.type_defs.specs.Fields.{lists_at}
 use Rattle.node_arena.specs.Fronts.{Grows}
 use Rattle.ast_paths.specs.Paths.{KeepsIds, is_filled, is_some}
@@ -73,7 +74,7 @@ before_filled F p node x h = slot_filled F (list_at F p) node (insert_before p (
 pub first_filled : (F : Forest) (s : ℕ) (node : Option ℕ) (x : ℕ) → is_filled F x ≡ true → is_filled (insert_first_of F s node) x ≡ true
 first_filled F s node x h = given_filled F s (λ xs. length F.places ∷ xs) node x h
 
-pub made_filled : (F : Forest) (kind x : ℕ) → is_filled F x ≡ true → is_filled (make_of F kind) x ≡ true
+pub made_filled : (F : Forest) (kind : Kind) (x : ℕ) → is_filled F x ≡ true → is_filled (make_of F kind) x ≡ true
 made_filled F kind x h =
     let row = row_filled F x h in
     same_filled F (make_of F kind) x (ap node_of (append_old F.places (new_places (length F.slots) (lists_at kind)) x row.0 row.1 ∙ sym row.1)) h

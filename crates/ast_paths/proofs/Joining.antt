@@ -7,6 +7,7 @@ use Rattle.node_arena.specs.Reads.{kind_at, kind_in, slot_state, state_at, state
 use Rattle.node_arena.specs.declared.state.PlaceState.TheVariants.{Root, Single, Listed, Out}
 use Rattle.ast_paths.specs.Paths.{is_listed}
 use Rattle.node_arena.specs.Rows.{new_node, standing_at}
+use Rattle.type_defs.specs.declared.kind.Kind.{Kind}
 use Rattle.type_defs.specs.Fields.{lists_at}
 use Rattle.node_arena.specs.Forest.{Forest, JoinsAt, MayGo, MayJoin, Place, Slot, at_slot, empty_place, given, grown, holding, insert_after_of, insert_before_of, insert_first_of, list_at, list_if, list_of, make_of, new_places, owner_of, slot_at}
 
@@ -89,13 +90,13 @@ pub places_first : (F : Forest) (s : ℕ) (node : Option ℕ) → length (insert
 places_first F s node = given_places (grown F s (λ xs. length F.places ∷ xs)) (length F.places) node ∙ long_grown F s (λ xs. length F.places ∷ xs)
 
 -- a new node
-pub nodes_made : (F : Forest) (kind : ℕ) → length (make_of F kind).nodes ≡ length F.nodes + 1
+pub nodes_made : (F : Forest) (kind : Kind) → length (make_of F kind).nodes ≡ length F.nodes + 1
 nodes_made F kind = length-append F.nodes (new_node kind (length F.slots) ∷ [])
 
-pub places_made : (F : Forest) (kind : ℕ) → length F.places ≤ length (make_of F kind).places
+pub places_made : (F : Forest) (kind : Kind) → length F.places ≤ length (make_of F kind).places
 places_made F kind = let e = length-append F.places (new_places (length F.slots) (lists_at kind)) in omega arith
 
-pub kind_made : (F : Forest) (kind : ℕ) → kind_at (make_of F kind) (length F.nodes) ≡ kind
+pub kind_made : (F : Forest) (kind : Kind) → kind_at (make_of F kind) (length F.nodes) ≡ kind
 kind_made F kind = ap kind_in (push_new F.nodes (new_node kind (length F.slots)))
 
 root_or_out : (b : Bool) → is_listed (if b then Root else Out) ≡ false

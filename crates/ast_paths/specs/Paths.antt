@@ -1,7 +1,7 @@
 -- Paths over a flat forest: owners' places, places by name and number, and what is taken away.
 use Rattle.std.specs.Prelude.{◌≡◌, ◌≢◌, ◌≤◌, ℕ, zero, suc, Bool, true, false, List, length, Option, Some, None, slice_get, ◌==◌, nat_lt, if◌then◌else◌}
+use Rattle.type_defs.specs.declared.kind.Kind.{Kind}
 use Rattle.type_defs.specs.declared.kind.Kind.TheVariants as k
-use Rattle.type_defs.specs.Kinds.{number_of}
 use Rattle.type_defs.specs.Fields.{Field, is_list_at, slots_at}
 use Rattle.node_arena.specs.declared.state.ArenaFault.{ArenaFault}
 use Rattle.node_arena.specs.declared.state.ArenaFault.TheVariants as a
@@ -40,13 +40,13 @@ abbrev pub parent_at : Forest → ℕ → Option ℕ
 parent_at F p = place_some F (owner_at F p)
 
 -- the slot of this number of a kind has this name
-pub record IsSlotNamed (kind slot : ℕ) (name : List ℕ) : Type 0 where
+pub record IsSlotNamed (kind : Kind) (slot : ℕ) (name : List ℕ) : Type 0 where
   pub field : Field
   pub is : slice_get (slots_at kind) slot ≡ Some field
   pub named : field.name ≡ name
 
 -- no slot of the kind has this name
-abbrev pub LacksSlot : ℕ → List ℕ → Type 0
+abbrev pub LacksSlot : Kind → List ℕ → Type 0
 LacksSlot kind name = (slot : ℕ) (field : Field) → slice_get (slots_at kind) slot ≡ Some field → field.name ≢ name
 
 abbrev pub next_some : Forest → Option ℕ → Option ℕ
@@ -91,11 +91,15 @@ abbrev pub is_empty : Forest → Option ℕ → Bool
 is_empty F None = true
 is_empty F (Some p) = is_none (node_at F p)
 
+-- whether a node of a kind is nothing, by the first place of its first slot
+abbrev pub is_bare_kind : Forest → Option ℕ → Kind → Bool
+is_bare_kind F first k.ExpressionStatement = is_empty F first
+is_bare_kind F first k.VariableDeclaration = is_none first
+is_bare_kind F first _ = false
+
 -- an expression statement without expression, or a declaration without declarators
 abbrev pub is_bare : Forest → ℕ → Bool
-is_bare F j =
-    if kind_at F j == number_of k.ExpressionStatement then is_empty F (first_at F j 0) else
-    (if kind_at F j == number_of k.VariableDeclaration then is_none (first_at F j 0) else false)
+is_bare F j = is_bare_kind F (first_at F j 0) (kind_at F j)
 
 abbrev pub take_place_of : Forest → Option ℕ → Forest
 take_place_of F None = F

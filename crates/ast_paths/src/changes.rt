@@ -11,7 +11,7 @@ use crate::fault::{PathFault, path_fault};
 use crate::plan::may_go;
 use crate::pruning::prune;
 use crate::settling::{Room, settle_all};
-use node_arena::{Arena, ArenaFault, MOST_PLACES, NodeId, PlaceId, PlaceState, Steps};
+use node_arena::{Arena, ArenaFault, MAX_PLACES, NodeId, PlaceId, PlaceState, Steps};
 use std::alloc::Global;
 use std::marker::Brand;
 use std::sync::ledger::{Blank, Ledger};
@@ -150,7 +150,7 @@ enum Side {
 
 /// How many places in lists the change makes.
 fn new_places(side: Side, count: usize) -> u32 {
-    let most = count.min(MOST_PLACES) as u32;
+    let most = count.min(MAX_PLACES) as u32;
     match side {
         Side::Into => most.saturating_sub(1),
         Side::Before | Side::After => most,

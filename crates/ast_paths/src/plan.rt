@@ -4,7 +4,7 @@ ghost use Rattle.std.specs.Prelude.{◌≡◌, ◌<◌, ◌≤◌, ◌^◌, ◌+
 ghost use Rattle.node_arena.specs.Forest.{MayGo};
 
 use crate::settling::Room;
-use node_arena::{Arena, MOST_NODES, MOST_PLACES, NodeId, PlaceId, Size};
+use node_arena::{Arena, MAX_NODES, MAX_PLACES, NodeId, PlaceId, Size};
 use std::alloc::{AllocError, Global};
 
 /// How a node goes into a place.
@@ -128,12 +128,12 @@ pub(crate) fn fits(arena: &Arena, copied: &[NodeId], room: Room) -> bool
     let mut nodes = arena.nodes() as usize + room.nodes as usize;
     let mut places = arena.places() as usize + room.places as usize;
     for at in 0..copied.len() {
-        if nodes > MOST_NODES || places > MOST_PLACES {
+        if nodes > MAX_NODES || places > MAX_PLACES {
             return false;
         }
         let size = size_of(arena, copied[at]);
         nodes += size.nodes as usize;
         places += size.places as usize;
     }
-    nodes <= MOST_NODES && places <= MOST_PLACES
+    nodes <= MAX_NODES && places <= MAX_PLACES
 }

@@ -59,17 +59,11 @@ fn is_bare(arena: &Arena, node: NodeId) -> bool
     requires { node < length arena.now.forest.nodes }
     ensures { result ≡ is_bare arena.now.forest node }
 {
-    let kind = arena.kind(node);
     let first = arena.slot_first(node, 0);
-    if kind == Kind::ExpressionStatement.number() {
-        return is_empty(arena, first);
-    }
-    if kind != Kind::VariableDeclaration.number() {
-        return false;
-    }
-    match first {
-        None => true,
-        Some(_) => false,
+    match arena.kind(node) {
+        Kind::ExpressionStatement => is_empty(arena, first),
+        Kind::VariableDeclaration => first.is_none(),
+        _ => false,
     }
 }
 

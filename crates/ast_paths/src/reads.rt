@@ -6,7 +6,7 @@ ghost use Rattle.ast_paths.specs.Paths.{IsKid, IsSlotNamed, LacksAt, LacksSlot, 
 
 use crate::fault::PathFault;
 use node_arena::{Arena, NodeId, PlaceId};
-use type_defs::{FieldDef, is_list, slots};
+use type_defs::{FieldDef, Kind, is_list, slots};
 
 /// The place where the owner of a place stands.
 pub fn parent(arena: &Arena, place: PlaceId) -> Option<PlaceId>
@@ -22,13 +22,13 @@ pub fn parent(arena: &Arena, place: PlaceId) -> Option<PlaceId>
 
 /// Whether the slot has this name.
 fn is_called(slot: &FieldDef, name: &str) -> bool
-    ensures { IsTrue result ↔ slot.now.name.now ≡ name.now }
+    ensures { IsTrue result ↔ slot.now.0.now ≡ name.now }
 {
-    slot.name == name
+    slot.0 == name
 }
 
 /// The number of the kind's slot of this name.
-fn slot_named(kind: u8, name: &str) -> Option<u8>
+fn slot_named(kind: Kind, name: &str) -> Option<u8>
     ensures found { IfSome result (λ s. IsSlotNamed kind s name.now) }
     ensures missing { IfNone result (LacksSlot kind name.now) }
 {

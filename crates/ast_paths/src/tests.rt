@@ -2,14 +2,17 @@
 
 use crate::{get, parent, prune, replace};
 use node_arena::Arena;
+use type_defs::Kind;
 
 #[test]
 fn moved_name_leaves_a_copy(rt: HostRuntime) {
     let alloc = rt.alloc();
     let mut arena = Arena::new(alloc).expect(&rt, "an arena");
-    let statement = arena.make(39).expect(&rt, "a statement");
-    let sum = arena.make(25).expect(&rt, "a sum");
-    let name = arena.make(1).expect(&rt, "a name");
+    let statement = arena
+        .make(Kind::ExpressionStatement)
+        .expect(&rt, "a statement");
+    let sum = arena.make(Kind::BinaryExpression).expect(&rt, "a sum");
+    let name = arena.make(Kind::Identifier).expect(&rt, "a name");
     let root = arena.root();
     replace(alloc, &mut arena, root, &[statement]).expect(&rt, "the statement goes in");
     let place = get(&arena, root, "expression", 0)

@@ -3,6 +3,7 @@ use Rattle.std.proofs.Common.{◌≡◌, ◌<◌, ℕ, List, [], ◌∷◌, ◌+
 use Rattle.std.specs.List.{list_any}
 use Rattle.std.proofs.lemmas.List.Elements.{All-push, All-head, All-tail}
 use Rattle.indexmap.specs.IndexSet.{insert_all, insert_key}
+use Rattle.type_defs.specs.declared.groups.NodeType.{NodeType}
 use Rattle.node_arena.specs.Forest.{Forest}
 use Rattle.collections.specs.Found.{below_path, below_paths, found_below}
 
@@ -17,15 +18,15 @@ pub all_more : (kept xs ys : List ℕ) → insert_all nat_eq kept (xs ++ ys) ≡
 all_more kept [] ys = refl
 all_more kept (x ∷ xs) ys = all_more (insert_key nat_eq kept x) xs ys
 
-below_last : (F : Forest) (kind : ℕ) (ps : List ℕ) (p : ℕ) → below_paths F kind (ps ++ p ∷ []) ≡ below_paths F kind ps ++ below_path F kind p
-below_last F kind [] p = append-nil (below_path F kind p)
-below_last F kind (q ∷ ps) p = ap (λ z. below_path F kind q ++ z) (below_last F kind ps p) ∙ sym (append_assoc (below_path F kind q) (below_paths F kind ps) (below_path F kind p))
+below_last : (F : Forest) (of : NodeType) (ps : List ℕ) (p : ℕ) → below_paths F of (ps ++ p ∷ []) ≡ below_paths F of ps ++ below_path F of p
+below_last F of [] p = append-nil (below_path F of p)
+below_last F of (q ∷ ps) p = ap (λ z. below_path F of q ++ z) (below_last F of ps p) ∙ sym (append_assoc (below_path F of q) (below_paths F of ps) (below_path F of p))
 
-pub found_one : (F : Forest) (kind : ℕ) (kept new ps more below : List ℕ) (p : ℕ) → kept ≡ found_below F kind ps → new ≡ insert_all nat_eq kept below → below ≡ below_path F kind p → more ≡ ps ++ p ∷ []
-    → new ≡ found_below F kind more
-found_one F kind kept new ps more below p k n b m =
-    n ∙ (ap (λ z. insert_all nat_eq z below) k ∙ (ap (insert_all nat_eq (found_below F kind ps)) b
-    ∙ (sym (all_more [] (below_paths F kind ps) (below_path F kind p)) ∙ ap (insert_all nat_eq []) (sym (below_last F kind ps p) ∙ ap (below_paths F kind) (sym m)))))
+pub found_one : (F : Forest) (of : NodeType) (kept new ps more below : List ℕ) (p : ℕ) → kept ≡ found_below F of ps → new ≡ insert_all nat_eq kept below → below ≡ below_path F of p → more ≡ ps ++ p ∷ []
+    → new ≡ found_below F of more
+found_one F of kept new ps more below p k n b m =
+    n ∙ (ap (λ z. insert_all nat_eq z below) k ∙ (ap (insert_all nat_eq (found_below F of ps)) b
+    ∙ (sym (all_more [] (below_paths F of ps) (below_path F of p)) ∙ ap (insert_all nat_eq []) (sym (below_last F of ps p) ∙ ap (below_paths F of) (sym m)))))
 
 all_one : (end : ℕ) (kept : List ℕ) (x : ℕ) → All (λ p. p < end) kept → x < end → All (λ p. p < end) (insert_key nat_eq kept x)
 all_one end kept x h p =

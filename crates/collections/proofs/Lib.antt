@@ -1,8 +1,9 @@
 pub mod Readings
-pub mod Trying
-pub mod Waits
+pub mod Trials
+pub mod WorkStack
 pub mod Picked
 pub mod Inserted
 pub mod Climbs
 pub mod Kept
 pub mod Making
+pub mod Literals

@@ -1,9 +1,10 @@
 -- The places below a node, in preorder: the order of the source.
 use Rattle.std.specs.Prelude.{ℕ, zero, suc, Bool, false, List, [], ◌∷◌, ◌++◌, length, Option, Some, None}
+use Rattle.type_defs.specs.declared.groups.NodeType.{NodeType}
 use Rattle.type_defs.specs.Groups.{is_a}
 use Rattle.node_arena.specs.Forest.{Forest, node_at}
 use Rattle.node_arena.specs.Reads.{kind_at, first_at, next_at}
-use Rattle.collections.specs.declared.below.Wait.{Wait}
+use Rattle.collections.specs.declared.preorder.Pending.{Pending}
 
 abbrev pub of_some : Option ℕ → (ℕ → List ℕ) → List ℕ
 of_some None f = []
@@ -27,23 +28,23 @@ below (suc d) F j = slots_of (λ k. along (length F.places) F (λ p. of_some (no
 abbrev pub under : Forest → ℕ → ℕ → List ℕ
 under F d p = of_some (node_at F p) (below d F)
 
-abbrev pub is_kind_of : Forest → ℕ → Option ℕ → Bool
-is_kind_of F kind None = false
-is_kind_of F kind (Some j) = is_a (kind_at F j) kind
+abbrev pub node_is_of : Forest → NodeType → Option ℕ → Bool
+node_is_of F of None = false
+node_is_of F of (Some j) = is_a (kind_at F j) of
 
--- a node of the kind or group stands in the place
-abbrev pub is_of : Forest → ℕ → ℕ → Bool
-is_of F kind p = is_kind_of F kind (node_at F p)
+-- a node of the type stands in the place
+abbrev pub is_of : Forest → NodeType → ℕ → Bool
+is_of F of p = node_is_of F of (node_at F p)
 
 -- so many places of a list from one on, each with all below it to a depth
 unfoldable pub listed : ℕ → Forest → ℕ → Option ℕ → List ℕ
 listed n F d at = along n F (under F d) at
 
 -- what waits with a list
-abbrev pub rest : Forest → Wait → List ℕ
+abbrev pub rest : Forest → Pending → List ℕ
 rest F w = listed (suc w.more) F w.depth (Some w.at)
 
 -- what waits on a stack, the last first
-unfoldable pub rests : Forest → List Wait → List ℕ
+unfoldable pub rests : Forest → List Pending → List ℕ
 rests F [] = []
 rests F (w ∷ ws) = rests F ws ++ rest F w

@@ -1,20 +1,21 @@
 -- What is found below paths.
 use Rattle.std.specs.Prelude.{ℕ, suc, ◌-◌, ℤ, pos, negsuc, nat_lt, slice_get, if◌then◌else◌, List, [], ◌∷◌, ◌++◌, length, filter, nat_eq, Option, Some, None}
 use Rattle.indexmap.specs.IndexSet.{insert_all}
+use Rattle.type_defs.specs.declared.groups.NodeType.{NodeType}
 use Rattle.node_arena.specs.Forest.{Forest, node_at}
 use Rattle.collections.specs.Below.{of_some, below, is_of}
 
--- the places strictly below a path where nodes of the kind or group stand, in preorder
-abbrev pub below_path : Forest → ℕ → ℕ → List ℕ
-below_path F kind p = of_some (node_at F p) (λ j. filter (is_of F kind) (below (length F.nodes) F j))
+-- the places strictly below a path where nodes of the type stand, in preorder
+abbrev pub below_path : Forest → NodeType → ℕ → List ℕ
+below_path F of p = of_some (node_at F p) (λ j. filter (is_of F of) (below (length F.nodes) F j))
 
-abbrev pub below_paths : Forest → ℕ → List ℕ → List ℕ
-below_paths F kind [] = []
-below_paths F kind (p ∷ ps) = below_path F kind p ++ below_paths F kind ps
+abbrev pub below_paths : Forest → NodeType → List ℕ → List ℕ
+below_paths F of [] = []
+below_paths F of (p ∷ ps) = below_path F of p ++ below_paths F of ps
 
 -- those below all paths, a place that comes again left out
-abbrev pub found_below : Forest → ℕ → List ℕ → List ℕ
-found_below F kind ps = insert_all nat_eq [] (below_paths F kind ps)
+abbrev pub found_below : Forest → NodeType → List ℕ → List ℕ
+found_below F of ps = insert_all nat_eq [] (below_paths F of ps)
 
 -- the first list is the second with some places left out
 pub data Picks : List ℕ → List ℕ → Type 0 where

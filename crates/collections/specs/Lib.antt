@@ -5,3 +5,4 @@ pub mod Below
 pub mod Found
 pub mod Above
 pub mod Changes
+pub mod Walks

@@ -2,6 +2,7 @@
 use Rattle.std.specs.Prelude.{ℕ, zero, suc, ◌+◌, ◌-◌, ℤ, Bool, true, false, not, List, [], ◌∷◌, length, Option, Some, None, nat_lt, ◌&&◌, if◌then◌else◌}
 use Rattle.std.specs.Str.{bytes_eq}
 use Rattle.std.specs.Ordering.{int_eq}
+use Rattle.type_defs.specs.declared.groups.NodeType.{NodeType}
 use Rattle.node_arena.specs.Forest.{Forest, node_at}
 use Rattle.node_arena.specs.Reads.{next_at}
 use Rattle.node_arena.specs.Store.{Store}
@@ -119,6 +120,6 @@ stands_read (Some j) = node j
 abbrev pub fits_place : Store → Pattern → ℕ → Bool
 fits_place A pattern p = (tried pattern A (stands_read (node_at A.forest p))).fits
 
--- whether a node of the kind or group that fits stands in the place
-abbrev pub fits_kind : Store → Pattern → ℕ → ℕ → Bool
-fits_kind A pattern kind p = fits_place A pattern p && is_of A.forest kind p
+-- whether a node of the type that fits stands in the place
+abbrev pub fits_type : Store → Pattern → NodeType → ℕ → Bool
+fits_type A pattern of p = fits_place A pattern p && is_of A.forest of p

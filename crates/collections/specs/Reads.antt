@@ -5,13 +5,13 @@ use Rattle.tree_core.specs.declared.scalars.Scalar.{Scalar}
 use Rattle.tree_core.specs.declared.scalars.Scalar.TheVariants as scalars
 use Rattle.type_defs.specs.declared.kind.Kind.{Kind}
 use Rattle.type_defs.specs.declared.kind.Kind.TheVariants as k
-use Rattle.type_defs.specs.Kinds.{kind_at as kind_of, name_of, number_of}
-use Rattle.type_defs.specs.Fields.{Field, fields_at, slots_at, scalar_count, is_list_at}
+use Rattle.type_defs.specs.Kinds.{name_of, same_kind}
+use Rattle.type_defs.specs.Fields.{Field, fields_of, slots_at, scalar_count, is_list_at}
 use Rattle.node_arena.specs.Forest.{Forest, node_at}
 use Rattle.node_arena.specs.Reads.{kind_at, first_at}
 use Rattle.node_arena.specs.Store.{Store, scalar_at, lead_at, trail_at, inner_at}
-use Rattle.collections.specs.declared.reading.Read.{Read}
-use Rattle.collections.specs.declared.reading.Read.TheVariants as reads
+use Rattle.collections.specs.declared.field_values.Read.{Read}
+use Rattle.collections.specs.declared.field_values.Read.TheVariants as reads
 
 -- what is read; a list by its first place, if it has one, and comments by how many they are
 pub data Reading : Type 0 where
@@ -25,15 +25,11 @@ pub data Reading : Type 0 where
   list : Option ℕ → Reading
   comments : ℕ → Reading
 
-abbrev pub name_read : Option Kind → Reading
-name_read None = undefined
-name_read (Some kind) = text (name_of kind)
-
 -- what a value of the code stands for
 abbrev pub seen : Read → Reading
 seen reads.Undefined = undefined
 seen (reads.Text t) = text t.now
-seen (reads.Named kind) = name_read (kind_of kind)
+seen (reads.Named kind) = text (name_of kind)
 seen (reads.Whole number) = whole number
 seen (reads.Truth b) = truth b
 seen reads.Null = null
@@ -83,8 +79,8 @@ scalar_or A j None other = other
 scalar_or A j (Some i) other = scalar_read A j i
 
 -- a field of the kind: of the scalars, which come first, or of the slots behind them
-abbrev pub own_read : Store → ℕ → List ℕ → ℕ → Reading
-own_read A j name kind = scalar_or A j (named 0 name (take (scalar_count kind) (fields_at kind))) (slot_named A.forest j (named 0 name (slots_at kind)))
+abbrev pub own_read : Store → ℕ → List ℕ → Kind → Reading
+own_read A j name kind = scalar_or A j (named 0 name (take (scalar_count kind) (fields_of kind))) (slot_named A.forest j (named 0 name (slots_at kind)))
 
 abbrev pub is_digit : ℕ → Bool
 is_digit u = not (nat_lt u 48) && nat_lt u 58
@@ -126,7 +122,7 @@ abbrev pub is_sort : Store → ℕ → List ℕ → Bool
 is_sort A j word = is_word word (scalar_read A j 0)
 
 -- a field of a literal: scalar 1 is its raw text, and some fields are only those of a sort
-abbrev pub literal_read : Store → ℕ → List ℕ → ℕ → Reading
+abbrev pub literal_read : Store → ℕ → List ℕ → Kind → Reading
 literal_read A j name kind =
     if is_sort A j (codes "number") && bytes_eq name (codes "value") then number_read (scalar_read A j 1) else
     (if is_sort A j (codes "number") && bytes_eq name (codes "raw") then scalar_read A j 1 else
@@ -135,7 +131,7 @@ literal_read A j name kind =
 
 -- an arrow's slot 1 is its body
 abbrev pub is_expression : Forest → Reading → Bool
-is_expression F (node body) = not (kind_at F body == number_of k.BlockStatement)
+is_expression F (node body) = not (same_kind (kind_at F body) k.BlockStatement)
 is_expression F _ = false
 
 abbrev pub counted : ℕ → Reading
@@ -146,14 +142,14 @@ abbrev pub comments_read : Store → ℕ → Reading
 comments_read A j = counted (min (min (length (lead_at A j) + length (trail_at A j)) (2 ^ 64 - 1) + length (inner_at A j)) (2 ^ 64 - 1))
 
 -- a field of a node of a kind
-abbrev pub kind_read : Store → ℕ → List ℕ → ℕ → Reading
+abbrev pub kind_read : Store → ℕ → List ℕ → Kind → Reading
 kind_read A j name kind =
-    if kind == number_of k.Literal then literal_read A j name kind else
-    (if (kind == number_of k.ArrowFunctionExpression) && bytes_eq name (codes "expression") then truth (is_expression A.forest (slot_read A.forest j 1)) else
-    (if (kind == number_of k.TemplateElement) && bytes_eq name (codes "value") then object else own_read A j name kind))
+    if same_kind kind k.Literal then literal_read A j name kind else
+    (if same_kind kind k.ArrowFunctionExpression && bytes_eq name (codes "expression") then truth (is_expression A.forest (slot_read A.forest j 1)) else
+    (if same_kind kind k.TemplateElement && bytes_eq name (codes "value") then object else own_read A j name kind))
 
 -- a field of a node
 abbrev pub field_read : Store → ℕ → List ℕ → Reading
 field_read A j name =
     if bytes_eq name (codes "comments") then comments_read A j else
-    (if bytes_eq name (codes "type") then name_read (kind_of (kind_at A.forest j)) else kind_read A j name (kind_at A.forest j))
+    (if bytes_eq name (codes "type") then text (name_of (kind_at A.forest j)) else kind_read A j name (kind_at A.forest j))

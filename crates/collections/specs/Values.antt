@@ -1,8 +1,8 @@
 -- What fields of nodes read as.
 use Rattle.std.specs.Prelude.{ℕ, ◌<◌, length, Option, Some, None}
 use Rattle.node_arena.specs.Forest.{Forest}
-use Rattle.collections.specs.declared.reading.Read.{Read}
-use Rattle.collections.specs.declared.reading.Read.TheVariants as reads
+use Rattle.collections.specs.declared.field_values.Read.{Read}
+use Rattle.collections.specs.declared.field_values.Read.TheVariants as reads
 
 abbrev pub PlaceIn : Forest → Option ℕ → Type 0
 PlaceIn F None = Unit {0}

@@ -11,7 +11,7 @@ use std::alloc::{AllocError, Global};
 pub type Paths = Items<PlaceId>;
 
 /// The most items of a list.
-pub const MOST_ITEMS: usize = 1000000;
+pub const MAX_ITEMS: usize = 1000000;
 
 /// The index of the item that an index names, which counts from the end where it is negative.
 fn item_at(len: usize, index: i64) -> Option<usize>

@@ -3,20 +3,19 @@
 ghost use Rattle.std.specs.Prelude.{◌≡◌, ◌<◌, ◌+◌, ◌-◌, ◌^◌, length, map, min, true, Some};
 ghost use Rattle.node_arena.specs.Store.{Store};
 ghost use Rattle.collections.specs.Values.{ReadIn};
-ghost use Rattle.collections.specs.Reads.{seen, list, object, undefined, name_read};
-ghost use Rattle.type_defs.specs.Kinds.{kind_at};
+ghost use Rattle.collections.specs.Reads.{seen, list, object, undefined};
 ghost use Rattle.collections.specs.Matches.{is_text, is_whole, is_truth, is_null, has_places, fit_object, fields_told, below_told, items_told, list_told, tried, field_tried, matches_at, visits_at};
 
+use crate::field_values::{Read, item, read_field, spells};
 use crate::pattern::{FieldPattern, Pattern};
-use crate::reading::{Read, item, read_field, spells};
 use node_arena::{Arena, NodeId, PlaceId};
-use type_defs::Kind;
 
-/// Whether what was tried fits, and how many nodes were asked for their fields.
-#[derive(Clone, Copy, Debug)]
-struct Trial {
-    fits: bool,
-    visits: u64,
+/// Whether what was tried fits, and how many nodes were visited to tell it.
+#[derive(Clone, Copy, Debug, PartialEq, Eq)]
+pub struct Trial {
+    pub fits: bool,
+    /// `u64::MAX` where there are more.
+    pub visits: u64,
 }
 
 /// A trial that asked no node.
@@ -27,16 +26,6 @@ fn told(fits: bool) -> Trial
     Trial { fits, visits: 0 }
 }
 
-/// Whether the text is the name of the kind of this number.
-fn is_name(text: &[u16], kind: u8) -> bool
-    ensures { result ≡ is_text text.now (name_read (kind_at kind)) }
-{
-    match Kind::from_number(kind) {
-        None => false,
-        Some(kind) => spells(text, kind.name()),
-    }
-}
-
 fn is_text(arena: &Arena, value: &Read<'_>, text: &[u16]) -> bool
     requires { ReadIn arena.now.forest value.now }
     ensures { result ≡ is_text text.now (seen value.now) }
@@ -44,7 +33,7 @@ fn is_text(arena: &Arena, value: &Read<'_>, text: &[u16]) -> bool
     let _made = arena.nodes();
     match value {
         Read::Text(units) => text == *units,
-        Read::Named(kind) => is_name(text, *kind),
+        Read::Named(kind) => spells(text, kind.name()),
         _ => false,
     }
 }
@@ -83,7 +72,7 @@ fn is_null(arena: &Arena, value: &Read<'_>) -> bool
 }
 
 /// Whether the list from a place on has so many places.
-#[tactic(auto, using(crate::proofs::Trying::long_none, crate::proofs::Trying::long_some, crate::proofs::Trying::long_end))]
+#[tactic(auto, using(crate::proofs::Trials::long_none, crate::proofs::Trials::long_some, crate::proofs::Trials::long_end))]
 fn is_long(arena: &Arena, first: PlaceId, count: usize) -> bool
     requires { first < length arena.now.forest.places }
     ensures { result ≡ has_places arena.now.forest count (Some first) }
@@ -225,7 +214,8 @@ fn try_value(arena: &Arena, value: &Read<'_>, pattern: &Pattern) -> Trial
     }
 }
 
-fn try_node(arena: &Arena, node: NodeId, pattern: &Pattern) -> Trial
+/// What `matches` and `reached` tell, by one walk. It takes no memory.
+pub fn try_pattern(arena: &Arena, node: NodeId, pattern: &Pattern) -> Trial
     requires { node < length arena.now.forest.nodes }
     ensures any { pattern.now ≡ Pattern.Any → result.fits ≡ true }
     ensures fits { result.fits ≡ matches_at arena.now node pattern.now }
@@ -246,15 +236,15 @@ pub fn matches(arena: &Arena, node: NodeId, pattern: &Pattern) -> bool
     ensures any { pattern.now ≡ Pattern.Any → result ≡ true }
     ensures fits { result ≡ matches_at arena.now node pattern.now }
 {
-    try_node(arena, node, pattern).fits
+    try_pattern(arena, node, pattern).fits
 }
 
 /// How many nodes below this one are visited to tell whether it matches: one each time that an
-/// object of the pattern is tried on one, up to the first that does not fit; `u64::MAX` where there
-/// are more. It takes no memory.
+/// object of the pattern is tried on one, up to the first that does not fit; `u64::MAX` where
+/// there are more. It takes no memory.
 pub fn reached(arena: &Arena, node: NodeId, pattern: &Pattern) -> u64
     requires { node < length arena.now.forest.nodes }
     ensures { result ≡ min (visits_at arena.now node pattern.now) (2 ^ 64 - 1) }
 {
-    try_node(arena, node, pattern).visits
+    try_pattern(arena, node, pattern).visits
 }

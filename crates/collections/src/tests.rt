@@ -14,7 +14,11 @@ use std::marker::Brand;
 use std::sync::ledger::{Blank, Ledger};
 use std::test::Fail;
 use tree_core::{Scalar, Units};
-use type_defs::{Group, Kind, is_list, scalar_count};
+use type_defs::{Group, Kind, NodeType, is_list, scalar_count};
+
+const NAMES: NodeType = NodeType::Kind(Kind::Identifier);
+
+const STATEMENTS: NodeType = NodeType::Group(Group::Statement);
 
 fn units(alloc: Global, text: &str) -> Result<Units, AllocError> {
     let mut units = Vec::new(alloc);
@@ -29,7 +33,7 @@ fn made(alloc: Global, arena: &mut Arena, kind: Kind, text: &str) -> Option<Node
     ensures { IfSome result (λ j. j < length arena.new.forest.nodes) }
 {
     let text = units(alloc, text).ok()?;
-    let node = arena.make(kind.number()).ok()?;
+    let node = arena.make(kind).ok()?;
     if scalar_count(arena.kind(node)) > 0 {
         arena.set_scalar(node, 0, Scalar::Text(text));
     }
@@ -121,12 +125,12 @@ fn program(alloc: Global, arena: &mut Arena) -> Option<()> {
     Some(())
 }
 
-// The places of the kind or group that match.
-fn found(alloc: Global, arena: &Arena, kind: u8, pattern: &Pattern) -> Option<Paths>
+// The places of the type that match.
+fn found(alloc: Global, arena: &Arena, of: NodeType, pattern: &Pattern) -> Option<Paths>
     ensures { IfSome result (λ v. All (λ p. p < length arena.now.forest.places) v) }
 {
     let root = Paths::from_slice(alloc, &[arena.root()]).ok()?;
-    find(alloc, arena, &root, kind, pattern).ok()
+    find(alloc, arena, &root, of, pattern).ok()
 }
 
 // Whether the names of the places' nodes are these letters.
@@ -151,7 +155,7 @@ fn reads(alloc: Global, arena: &Arena, paths: &Paths, letters: &str) -> Option<b
 
 // Whether the names of the whole program are these letters.
 fn names(alloc: Global, arena: &Arena, letters: &str) -> Option<bool> {
-    let all = found(alloc, arena, Kind::Identifier.number(), &Pattern::Any)?;
+    let all = found(alloc, arena, NAMES, &Pattern::Any)?;
     reads(alloc, arena, &all, letters)
 }
 
@@ -166,29 +170,29 @@ fn named(alloc: Global, name: &str) -> Option<Pattern> {
 // Whether `find` and `filter` by a name give these letters of the names.
 fn finds(alloc: Global, arena: &Arena, name: &str, letters: &str) -> Option<bool> {
     let pattern = named(alloc, name)?;
-    let one = found(alloc, arena, Kind::Identifier.number(), &pattern)?;
-    let all = found(alloc, arena, Kind::Identifier.number(), &Pattern::Any)?;
+    let one = found(alloc, arena, NAMES, &pattern)?;
+    let all = found(alloc, arena, NAMES, &Pattern::Any)?;
     let kept = filter(alloc, arena, &all, &pattern).ok()?;
     Some(reads(alloc, arena, &one, letters)? && reads(alloc, arena, &kept, letters)?)
 }
 
 // Whether `at` gives these letters of the names.
 fn stands_at(alloc: Global, arena: &Arena, index: i64, letters: &str) -> Option<bool> {
-    let all = found(alloc, arena, Kind::Identifier.number(), &Pattern::Any)?;
+    let all = found(alloc, arena, NAMES, &Pattern::Any)?;
     reads(alloc, arena, &at(alloc, &all, index).ok()?, letters)
 }
 
-// How many nearest ancestors of the kind all names have.
-fn above(alloc: Global, arena: &Arena, kind: u8) -> Option<usize> {
-    let all = found(alloc, arena, Kind::Identifier.number(), &Pattern::Any)?;
-    Some(closest(alloc, arena, &all, kind, &Pattern::Any).ok()?.len())
+// How many nearest ancestors of the type all names have.
+fn above(alloc: Global, arena: &Arena, of: NodeType) -> Option<usize> {
+    let all = found(alloc, arena, NAMES, &Pattern::Any)?;
+    Some(closest(alloc, arena, &all, of, &Pattern::Any).ok()?.len())
 }
 
 // How many nodes are visited below a statement to tell whether the left operand has this name.
 fn visited(alloc: Global, arena: &Arena, name: &str) -> Option<u64> {
     let left = field(alloc, "left", text_field(alloc, "name", name)?)?;
     let pattern = field(alloc, "expression", field(alloc, "right", left)?)?;
-    let statements = found(alloc, arena, Group::Statement.number(), &Pattern::Any)?;
+    let statements = found(alloc, arena, STATEMENTS, &Pattern::Any)?;
     let first = statements.as_slice().first().copied()?;
     if first.number() >= arena.places() {
         return None;
@@ -213,8 +217,8 @@ fn finds_in_the_order_of_the_source(rt: HostRuntime) -> Result<(), Fail> {
             "at {index}"
         );
     }
-    assert!(rt; above(alloc, &arena, Kind::BinaryExpression.number()) == Some(2));
-    assert!(rt; above(alloc, &arena, Group::Statement.number()) == Some(2));
+    assert!(rt; above(alloc, &arena, NodeType::Kind(Kind::BinaryExpression)) == Some(2));
+    assert!(rt; above(alloc, &arena, STATEMENTS) == Some(2));
     assert!(rt; visited(alloc, &arena, "a") == Some(3));
     assert!(rt; visited(alloc, &arena, "q") == Some(3));
     Ok(())
@@ -266,7 +270,7 @@ fn changed(
     letter: &str,
 ) -> Option<Result<(), PathFault>> {
     let node = changing(alloc, arena, change, letter)?;
-    let paths = found(alloc, arena, kind.number(), &named(alloc, name)?)?;
+    let paths = found(alloc, arena, NodeType::Kind(kind), &named(alloc, name)?)?;
     Some(change_at(alloc, arena, change, &paths, node))
 }
 
@@ -278,12 +282,7 @@ fn changed_at_the_root(
     letter: &str,
 ) -> Option<Result<(), PathFault>> {
     let node = changing(alloc, arena, change, letter)?;
-    let statements = found(
-        alloc,
-        arena,
-        Kind::ExpressionStatement.number(),
-        &Pattern::Any,
-    )?;
+    let statements = found(alloc, arena, STATEMENTS, &Pattern::Any)?;
     let first = statements.as_slice().first().copied()?;
     if first.number() >= arena.places() {
         return None;
@@ -353,7 +352,7 @@ fn the_root_has_nothing_above_it(rt: HostRuntime) -> Result<(), Fail> {
     let arena = Arena::new(rt.alloc())?;
     let root = Paths::from_slice(rt.alloc(), &[arena.root()])?;
     assert_eq!(rt;
-        closest(rt.alloc(), &arena, &root, 1, &Pattern::Any)?.len(),
+        closest(rt.alloc(), &arena, &root, NAMES, &Pattern::Any)?.len(),
         0
     );
     Ok(())

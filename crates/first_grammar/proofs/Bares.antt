@@ -9,7 +9,7 @@ use Rattle.tree_core.specs.View.{Spot, Row, slots_of, places_of}
 use Rattle.tree_core.specs.Bare.{bare, bare_slots, bare_places}
 use Rattle.tree_core.specs.Height.{height, slots_height, places_height}
 use Rattle.first_grammar.specs.declared.table.Kind.{Kind}
-use Rattle.first_grammar.specs.Table.{number, fixed}
+use Rattle.first_grammar.specs.Table.{node_kind, fixed}
 use Rattle.first_grammar.specs.Spells.{bare_notes, node_of, one, all}
 use Rattle.first_grammar.specs.Reading.{Read}
 
@@ -50,8 +50,8 @@ one_alike name other x y e = ap (λ z. (false, place None z no_places)) e
 pub node_alike : (kind : Kind) (scalars other : List Scalar) (rows more : List Row) (from that : Option ℕ) → scalars ≡ other → bare_rows rows ≡ bare_rows more
     → bare (node_of kind scalars rows from) ≡ bare (node_of kind other more that)
 node_alike kind scalars other rows more from that e f =
-    ap (λ z. node (number kind) (fixed kind ++ z) (bare_slots (slots_of rows)) bare_notes None) e
-    ∙ ap (λ z. node (number kind) (fixed kind ++ other) z bare_notes None) (slots_bare rows ∙ ap slots_of f ∙ sym (slots_bare more))
+    ap (λ z. node (node_kind kind) (fixed kind ++ z) (bare_slots (slots_of rows)) bare_notes None) e
+    ∙ ap (λ z. node (node_kind kind) (fixed kind ++ other) z bare_notes None) (slots_bare rows ∙ ap slots_of f ∙ sym (slots_bare more))
 
 mutual
   height_bare : (x : Syntax) → height (bare x) ≡ height x

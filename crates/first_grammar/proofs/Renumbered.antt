@@ -9,7 +9,7 @@ use Rattle.tree_core.specs.View.{Spot, Row, slots_of, places_of}
 use Rattle.first_grammar.specs.declared.table.Kind.{Kind}
 use Rattle.first_grammar.specs.declared.table.Category.{Category}
 use Rattle.first_grammar.specs.declared.table.Part.{Part}
-use Rattle.first_grammar.specs.Table.{number, fixed}
+use Rattle.first_grammar.specs.Table.{node_kind, fixed}
 use Rattle.first_grammar.specs.Spells.{Spells, Node, Fills, Listed, InRow, formed, built, no_parts, a_token, a_name, free_name, a_child, empty_list, a_list, a_body, last, more, row_end, row_next, bare_notes, one, all, At, HasSpan, Whole}
 use Rattle.first_grammar.specs.Numbers.{count, places_count, places_length, name_of, numbered, numbered_slots, numbered_places, span_of, nowhere, spans_of, slots_spans, places_spans}
 use Rattle.first_grammar.proofs.Passed.{get_seam}
@@ -60,7 +60,7 @@ module _ (s : List ℕ) (old z : List Span) where
     whole_node _ _ _ _ n lies (built kind i j scalars rows from begins h said) =
         let new = fills _ i j scalars rows n 0 (n + 1) (lies_right z n 1 (span_of old from ∷ []) (slots_spans old (slots_of rows)) refl lies) h in
         let has : HasSpan z (Some n) i j = lies_first z n _ _ lies ∙ ap Some (named_span old from i j said) in
-        subst (λ v. Node (At z) s kind i j (node (number kind) (fixed kind ++ scalars) v bare_notes (Some n))) new.1 (built kind i j scalars new.0 (Some n) begins new.2 has)
+        subst (λ v. Node (At z) s kind i j (node (node_kind kind) (fixed kind ++ scalars) v bare_notes (Some n))) new.1 (built kind i j scalars new.0 (Some n) begins new.2 has)
 
     fills : (qs : List Part) (i j : ℕ) (scalars : List Scalar) (rows : List Row) (parent child n : ℕ) → Lies z n (slots_spans old (slots_of rows)) → Fills (At old) s qs i j scalars rows
         → NewRows qs i j scalars (numbered_slots parent child n (slots_of rows))

@@ -15,7 +15,7 @@ use Rattle.first_grammar.specs.declared.table.Category.{Category}
 use Rattle.first_grammar.specs.declared.table.Category.TheVariants as c
 use Rattle.first_grammar.specs.declared.table.Part.{Part}
 use Rattle.first_grammar.specs.declared.table.Part.TheVariants as p
-use Rattle.first_grammar.specs.Table.{number, fixed, level, belongs, is_whole, form}
+use Rattle.first_grammar.specs.Table.{node_kind, fixed, level, belongs, is_whole, form}
 use Rattle.first_grammar.specs.Words.{is_blank, is_name_word, Blank, Scan}
 
 abbrev pub Said : Type 1
@@ -27,7 +27,7 @@ bare_notes = record { lead = []; trail = []; inner = [] }
 
 -- a node of the kind; its number and its places' names are no part of what is spelled
 abbrev pub node_of : Kind → List Scalar → List Row → Option ℕ → Syntax
-node_of kind scalars rows from = node (number kind) (fixed kind ++ scalars) (slots_of rows) bare_notes from
+node_of kind scalars rows from = node (node_kind kind) (fixed kind ++ scalars) (slots_of rows) bare_notes from
 
 -- a slot of one tree
 abbrev pub one : Option PlaceName → Syntax → Row

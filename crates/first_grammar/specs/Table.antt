@@ -12,19 +12,22 @@ use Rattle.first_grammar.specs.declared.table.Category.{Category}
 use Rattle.first_grammar.specs.declared.table.Category.TheVariants as c
 use Rattle.first_grammar.specs.declared.table.Part.{Part}
 use Rattle.first_grammar.specs.declared.table.Part.TheVariants as p
+use Rattle.type_defs.specs.declared.kind.Kind.{Kind as NodeKind}
+use Rattle.type_defs.specs.declared.kind.Kind.TheVariants as node
 
 -- whether two tokens are of one sort
 unfoldable pub same_word : Word → Word → Bool
 same_word = sameb the_type
 
-abbrev pub number : Kind → ℕ
-number k.Identifier = 1
-number k.PropertyName = 1
-number k.Member = 16
-number k.Call = 17
-number k.Assignment = 28
-number k.Program = 37
-number k.ExpressionStatement = 39
+-- the kind of ESTree
+abbrev pub node_kind : Kind → NodeKind
+node_kind k.Identifier = node.Identifier
+node_kind k.PropertyName = node.Identifier
+node_kind k.Member = node.MemberExpression
+node_kind k.Call = node.CallExpression
+node_kind k.Assignment = node.AssignmentExpression
+node_kind k.Program = node.Program
+node_kind k.ExpressionStatement = node.ExpressionStatement
 
 -- the scalars that the form does not spell by a name
 abbrev pub fixed : Kind → List Scalar

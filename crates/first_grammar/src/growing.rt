@@ -8,7 +8,7 @@ ghost use Rattle.first_grammar.specs.Reading.{unnamed};
 ghost use Rattle.first_grammar.specs.Spells as spells;
 
 use crate::measured::{Children, Grown, Parts};
-use crate::table::{Kind, fixed, number};
+use crate::table::{Kind, fixed, node_kind};
 use sqlite_items::Items;
 use std::alloc::{AllocError, Global};
 use tree_core::{Notes, Place, Scalar, Scalars, Slot, Tree, Units};
@@ -109,7 +109,7 @@ impl Parts {
             levels,
         } = self;
         let tree = Tree {
-            kind: number(kind),
+            kind: node_kind(kind),
             scalars: fixed(alloc, kind)?.append(alloc, scalars)?,
             slots,
             notes: Notes::none(),

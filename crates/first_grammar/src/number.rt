@@ -9,6 +9,7 @@ ghost use Rattle.first_grammar.specs.Shelled.{shelled};
 use sqlite_items::Items;
 use std::alloc::{AllocError, Global};
 use tree_core::{Notes, Place, PlaceName, Scalars, Slot, Span, Spans, Tree};
+use type_defs::Kind;
 
 /// The most nodes that are numbered.
 const MOST_NODES: usize = 4_194_304;
@@ -64,7 +65,7 @@ fn reversed<T: Drop>(alloc: Global, mut items: Items<T>) -> Result<Items<T>, All
 /// What a node has besides its slots and its number.
 #[derive(Drop)]
 pub struct Shell {
-    pub kind: u8,
+    pub kind: Kind,
     pub scalars: Scalars,
     pub notes: Notes,
 }

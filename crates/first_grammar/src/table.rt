@@ -5,6 +5,7 @@ ghost use Rattle.first_grammar.specs.Table as spec;
 
 use std::alloc::{AllocError, Global};
 use tree_core::{Scalar, Scalars, Units};
+use type_defs::Kind as NodeKind;
 
 /// The kinds of ESTree in the first grammar. A name is two rows: as an expression it is no
 /// reserved word, after a dot it may be any.
@@ -68,17 +69,17 @@ pub fn same_word(a: Word, b: Word) -> bool
     a == b
 }
 
-/// The number of the kind in a tree.
-pub fn number(kind: Kind) -> u8
-    ensures { result ≡ spec.number kind }
+/// The kind of ESTree in a tree.
+pub fn node_kind(kind: Kind) -> NodeKind
+    ensures { result ≡ spec.node_kind kind }
 {
     match kind {
-        Kind::Identifier | Kind::PropertyName => 1,
-        Kind::Member => 16,
-        Kind::Call => 17,
-        Kind::Assignment => 28,
-        Kind::Program => 37,
-        Kind::ExpressionStatement => 39,
+        Kind::Identifier | Kind::PropertyName => NodeKind::Identifier,
+        Kind::Member => NodeKind::MemberExpression,
+        Kind::Call => NodeKind::CallExpression,
+        Kind::Assignment => NodeKind::AssignmentExpression,
+        Kind::Program => NodeKind::Program,
+        Kind::ExpressionStatement => NodeKind::ExpressionStatement,
     }
 }
 

@@ -5,6 +5,8 @@ use Rattle.tree_core.specs.declared.scalars.Scalar.{Scalar}
 use Rattle.tree_core.specs.declared.scalars.Scalar.TheVariants.{Text}
 use Rattle.tree_core.specs.declared.span.Span.{Span}
 use Rattle.tree_core.specs.Syntax.{Syntax, node, Slots, no_slots, slot, Places, no_places, hole, place}
+use Rattle.type_defs.specs.declared.kind.Kind.{Kind as NodeKind}
+use Rattle.type_defs.specs.declared.kind.Kind.TheVariants.{Identifier}
 use Rattle.tree_core.specs.View.{Spot, Row, slots_of, places_of}
 use Rattle.first_grammar.specs.declared.table.Kind.{Kind}
 use Rattle.first_grammar.specs.declared.table.Kind.TheVariants as k
@@ -13,7 +15,7 @@ use Rattle.first_grammar.specs.declared.table.Category.{Category}
 use Rattle.first_grammar.specs.declared.table.Category.TheVariants as c
 use Rattle.first_grammar.specs.declared.table.Part.{Part}
 use Rattle.first_grammar.specs.declared.table.Part.TheVariants as part
-use Rattle.first_grammar.specs.Table.{number, fixed, is_whole, form}
+use Rattle.first_grammar.specs.Table.{node_kind, fixed, is_whole, form}
 use Rattle.first_grammar.specs.Words.{WordAt}
 use Rattle.first_grammar.specs.Spells.{Said, node_of, bare_notes, Begins, Spells, Node, Fills, Listed, InRow, formed, built, no_parts, a_token, a_name, free_name, a_child, empty_list, a_list, a_body, last, more, row_end, row_next, Anything, HasSpan, At, Whole, Reads}
 use Rattle.first_rename.specs.Names.{IsPlainName, is_named, renamed, renamed_slots, renamed_places}
@@ -85,14 +87,14 @@ module _ (old new : List ℕ) where
   rows_are (x ∷ xs) = ap (slot x.0 (renamed_places old new x.1)) (rows_are xs)
 
   -- a node that is no identifier of the old name
-  node_is : (kind : Kind) (scalars : List Scalar) (rows : List Row) (from : Option ℕ) → is_named old (number kind) (fixed kind ++ scalars) ≡ false
+  node_is : (kind : Kind) (scalars : List Scalar) (rows : List Row) (from : Option ℕ) → is_named old (node_kind kind) (fixed kind ++ scalars) ≡ false
       → node_of kind scalars (renamed_rows rows) from ≡ renamed old new (node_of kind scalars rows from)
   node_is kind scalars rows from e =
-      ap (λ v. node (number kind) (fixed kind ++ scalars) v bare_notes from) (rows_are rows)
-      ∙ ap (λ b. node (number kind) (cond b (Text new ∷ []) (fixed kind ++ scalars)) (renamed_slots old new (slots_of rows)) bare_notes from) (sym e)
+      ap (λ v. node (node_kind kind) (fixed kind ++ scalars) v bare_notes from) (rows_are rows)
+      ∙ ap (λ b. node (node_kind kind) (cond b (Text new ∷ []) (fixed kind ++ scalars)) (renamed_slots old new (slots_of rows)) bare_notes from) (sym e)
 
   -- an identifier of the old name
-  name_is : (kind : ℕ) (scalars : List Scalar) (from : Option ℕ) → is_named old kind scalars ≡ true
+  name_is : (kind : NodeKind) (scalars : List Scalar) (from : Option ℕ) → is_named old kind scalars ≡ true
       → node kind (Text new ∷ []) no_slots bare_notes from ≡ renamed old new (node kind scalars no_slots bare_notes from)
   name_is kind scalars from e = ap (λ b. node kind (cond b (Text new ∷ []) scalars) no_slots bare_notes from) (sym e)
 
@@ -118,10 +120,10 @@ module _ (s new out : List ℕ) (plain : IsPlainName new) (spans : List Span) (o
       (between_both s i j (length s) (place_edits old spans (places_of xs)) es (between_row s spans old c i j xs d (order s j (length s) es h).0) h)
 
   after_own : (i j b : ℕ) (from : Option ℕ) (es : List Span) → Begins false s i → b ≡ i → Named s b j → HasSpan spans from i j → After s j es
-      → After s i (tree_then old spans (node 1 (Text (slice_range s b j) ∷ []) no_slots bare_notes from) es)
+      → After s i (tree_then old spans (node Identifier (Text (slice_range s b j) ∷ []) no_slots bare_notes from) es)
   after_own i j b from es n at name has h =
-      let x = node 1 (Text (slice_range s b j) ∷ []) no_slots bare_notes from in
-      subst (λ v. After s i v) (tree_is old spans x es) (between_both s i j (length s) (edits old spans x) es (one_name s spans old (is_named old 1 (Text (slice_range s b j) ∷ [])) from i j b at name has) h)
+      let x = node Identifier (Text (slice_range s b j) ∷ []) no_slots bare_notes from in
+      subst (λ v. After s i v) (tree_is old spans x es) (between_both s i j (length s) (edits old spans x) es (one_name s spans old (is_named old Identifier (Text (slice_range s b j) ∷ [])) from i j b at name has) h)
 
   -- what is said of each node of the patched text follows from where the node stood
   abbrev pub Follows : Said → Type 0
@@ -141,13 +143,13 @@ module _ (s new out : List ℕ) (plain : IsPlainName new) (spans : List Span) (o
     said_moved x i j p to es has g h r1 r2 = follows x i j p to es has g h (subst (λ v. Rest out p (patched s new i v)) (sym (tree_is old spans x es)) r1) r2
 
     -- the new name stands where the old one did
-    put : (kind : Kind) (i j b p : ℕ) (from : Option ℕ) (es : List Span) → ((w : List ℕ) → node_of kind (Text w ∷ []) [] from ≡ node 1 (Text w ∷ []) no_slots bare_notes from)
-        → Begins false s i → b ≡ i → Named s b j → HasSpan spans from i j → After s j es → is_named old 1 (Text (slice_range s b j) ∷ []) ≡ true
-        → Rest out p (patched s new i (tree_then old spans (node 1 (Text (slice_range s b j) ∷ []) no_slots bare_notes from) es))
+    put : (kind : Kind) (i j b p : ℕ) (from : Option ℕ) (es : List Span) → ((w : List ℕ) → node_of kind (Text w ∷ []) [] from ≡ node Identifier (Text w ∷ []) no_slots bare_notes from)
+        → Begins false s i → b ≡ i → Named s b j → HasSpan spans from i j → After s j es → is_named old Identifier (Text (slice_range s b j) ∷ []) ≡ true
+        → Rest out p (patched s new i (tree_then old spans (node Identifier (Text (slice_range s b j) ∷ []) no_slots bare_notes from) es))
         → ((q : ℕ) → WordAt false out p q → Begins false out p → Q (node_of kind (Text (slice_range out p q) ∷ []) [] from) p q → Node Q out kind p q (node_of kind (Text (slice_range out p q) ∷ []) [] from))
-        → Reached s new out (λ q. Node Q out kind p q (renamed old new (node 1 (Text (slice_range s b j) ∷ []) no_slots bare_notes from))) j es
+        → Reached s new out (λ q. Node Q out kind p q (renamed old new (node Identifier (Text (slice_range s b j) ∷ []) no_slots bare_notes from))) j es
     put kind i j b p from es is n at name has h e r make =
-        let x = node 1 (Text (slice_range s b j) ∷ []) no_slots bare_notes from in
+        let x = node Identifier (Text (slice_range s b j) ∷ []) no_slots bare_notes from in
         let tail = patched s new j es in
         let one : Rest out p (slice_range s i i ++ (new ++ tail)) = subst (λ v. Rest out p (patched s new i (v ++ es))) (ap (λ (v : Bool). cond v (stretch spans from) []) e ∙ stretch_is spans from i j has) r in
         let two : Rest out p (new ++ tail) = subst (λ v. Rest out p (v ++ (new ++ tail))) (empty_range s i) one in
@@ -155,8 +157,8 @@ module _ (s new out : List ℕ) (plain : IsPlainName new) (spans : List Span) (o
         let rest = past out p new tail two in
         let word = name_put s new out plain j p es h name.name.last two in
         let begins = begins_moved s new out plain false i p (tree_then old spans x es) n (after_own i j b from es n at name has h) r in
-        let same = is (slice_range out p q) ∙ (ap (λ v. node 1 (Text v ∷ []) no_slots bare_notes from) (front_range out p new tail two) ∙ name_is old new 1 (Text (slice_range s b j) ∷ []) from e) in
-        let here = said_moved x i j p q es has (one_name s spans old (is_named old 1 (Text (slice_range s b j) ∷ [])) from i j b at name has) h r rest in
+        let same = is (slice_range out p q) ∙ (ap (λ v. node Identifier (Text v ∷ []) no_slots bare_notes from) (front_range out p new tail two) ∙ name_is old new Identifier (Text (slice_range s b j) ∷ []) from e) in
+        let here = said_moved x i j p q es has (one_name s spans old (is_named old Identifier (Text (slice_range s b j) ∷ [])) from i j b at name has) h r rest in
         record { to = q; is = subst (λ v. Node Q out kind p q v) same (make q word begins (subst (λ v. Q v p q) (sym same) here)); rest = rest }
 
     put_named : (kind : Kind) (i j : ℕ) (x : Syntax) → Node (At spans) s kind i j x → named old x ≡ true → (p : ℕ) (es : List Span) → After s j es → Rest out p (patched s new i (tree_then old spans x es))
@@ -175,7 +177,7 @@ module _ (s new out : List ℕ) (plain : IsPlainName new) (spans : List Span) (o
 
     -- a node that is no identifier of the old name, from its parts
     built_anew : (kind : Kind) (i j p : ℕ) (scalars : List Scalar) (rows : List Row) (from : Option ℕ) (es : List Span) → Begins (is_whole kind) s i → Fills (At spans) s (form kind) i j scalars rows → HasSpan spans from i j
-        → is_named old (number kind) (fixed kind ++ scalars) ≡ false → After s j es → Rest out p (patched s new i (tree_then old spans (node_of kind scalars rows from) es))
+        → is_named old (node_kind kind) (fixed kind ++ scalars) ≡ false → After s j es → Rest out p (patched s new i (tree_then old spans (node_of kind scalars rows from) es))
         → (Rest out p (patched s new i (slots_then old spans (slots_of rows) es)) → Reached s new out (λ q. Fills Q out (form kind) p q scalars (renamed_rows old new rows)) j es)
         → Reached s new out (λ q. Node Q out kind p q (renamed old new (node_of kind scalars rows from))) j es
     built_anew kind i j p scalars rows from es n g has e h r go =
@@ -197,7 +199,7 @@ module _ (s new out : List ℕ) (plain : IsPlainName new) (spans : List Span) (o
       moved_node : (kind : Kind) (i j : ℕ) (x : Syntax) → Node (At spans) s kind i j x → (p : ℕ) (es : List Span) → After s j es → Rest out p (patched s new i (tree_then old spans x es))
           → Reached s new out (λ q. Node Q out kind p q (renamed old new x)) j es
       moved_node _ _ _ _ (built kind i j scalars rows from n g has) p es h r =
-          by_truth (is_named old (number kind) (fixed kind ++ scalars))
+          by_truth (is_named old (node_kind kind) (fixed kind ++ scalars))
           (λ e. built_anew kind i j p scalars rows from es n g has e h r (λ r2. moved_fills (form kind) i j scalars rows g p es h r2))
           (λ e. put_named kind i j (node_of kind scalars rows from) (built kind i j scalars rows from n g has) e p es h r)
 

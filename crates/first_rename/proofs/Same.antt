@@ -1,5 +1,5 @@
 -- Where the source spells the renamed tree, the identifiers of the old name have the new one there already.
-use Rattle.std.proofs.Common.{◌≡◌, ◌+◌, ◌==◌, ◌&&◌, ℕ, Bool, true, false, cond, List, [], ◌∷◌, ◌++◌, length, Option, Some, None, refl, sym, ◌∙◌, ap, subst, arith, append_assoc}
+use Rattle.std.proofs.Common.{◌≡◌, ◌+◌, ◌&&◌, ℕ, Bool, true, false, cond, List, [], ◌∷◌, ◌++◌, length, Option, Some, None, refl, sym, ◌∙◌, ap, subst, arith, append_assoc}
 use Rattle.std.specs.Prelude.{slice_get, slice_range}
 use Rattle.std.specs.Str.{bytes_eq}
 use Rattle.std.proofs.lemmas.Slice.Eq.{bytes_eq-Decides}
@@ -7,20 +7,21 @@ use Rattle.tree_core.specs.declared.scalars.Scalar.{Scalar}
 use Rattle.tree_core.specs.declared.scalars.Scalar.TheVariants.{Text}
 use Rattle.tree_core.specs.declared.span.Span.{Span}
 use Rattle.tree_core.specs.Syntax.{Syntax, node, Slots, no_slots, slot, Places, no_places, hole, place}
+use Rattle.type_defs.specs.declared.kind.Kind.{Kind as NodeKind}
 use Rattle.tree_core.specs.View.{Spot, Row, slots_of, places_of}
 use Rattle.first_grammar.specs.declared.table.Kind.{Kind}
 use Rattle.first_grammar.specs.declared.table.Kind.TheVariants as k
 use Rattle.first_grammar.specs.declared.table.Category.{Category}
 use Rattle.first_grammar.specs.declared.table.Part.{Part}
 use Rattle.first_grammar.specs.Spells.{Spells, Node, Fills, Listed, InRow, formed, built, no_parts, a_token, a_name, free_name, a_child, empty_list, a_list, a_body, last, more, row_end, row_next, HasSpan, At}
-use Rattle.first_rename.specs.Names.{is_named, is_name, renamed, renamed_slots, renamed_places}
+use Rattle.first_rename.specs.Names.{is_identifier, is_named, is_name, renamed, renamed_slots, renamed_places}
 use Rattle.first_rename.specs.Edits.{known, stretch, edits, slot_edits, place_edits, patched}
 use Rattle.first_rename.proofs.Stretches.{Between, After, order, split, range_split, Rest, rest_length, past, front_range}
 use Rattle.first_rename.proofs.Tokens.{no_blank_before}
 use Rattle.first_rename.proofs.Spans.{one_stretch}
 
 -- an identifier of this name stands on it
-abbrev Own : List ℕ → List Span → List ℕ → ℕ → List Scalar → Option ℕ → Type 0
+abbrev Own : List ℕ → List Span → List ℕ → NodeKind → List Scalar → Option ℕ → Type 0
 Own s spans w kind scalars from = (i j : ℕ) → is_named w kind scalars ≡ true → HasSpan spans from i j → slice_range s i j ≡ w
 
 abbrev mutual
@@ -98,11 +99,11 @@ same_known : (s new : List ℕ) (spans : List Span) (from : Option ℕ) → ((i 
 same_known s new spans None h = tt
 same_known s new spans (Some n) h = same_found s new (slice_get spans n) h
 
-named_new : (new old : List ℕ) (kind : ℕ) (scalars : List Scalar) → is_named old kind scalars ≡ true → is_named new kind (Text new ∷ []) ≡ true
-named_new new old kind scalars e = rw (both_true (kind == 1) (is_name old scalars) e) ((bytes_eq-Decides new new).1 refl)
+named_new : (new old : List ℕ) (kind : NodeKind) (scalars : List Scalar) → is_named old kind scalars ≡ true → is_named new kind (Text new ∷ []) ≡ true
+named_new new old kind scalars e = rw (both_true (is_identifier kind) (is_name old scalars) e) ((bytes_eq-Decides new new).1 refl)
 
 module _ (s new old : List ℕ) (spans : List Span) where
-  own_same : (kind : ℕ) (scalars : List Scalar) (from : Option ℕ) (named : Bool) → is_named old kind scalars ≡ named → Own s spans new kind (cond named (Text new ∷ []) scalars) from
+  own_same : (kind : NodeKind) (scalars : List Scalar) (from : Option ℕ) (named : Bool) → is_named old kind scalars ≡ named → Own s spans new kind (cond named (Text new ∷ []) scalars) from
       → Same s new (cond named (stretch spans from) [])
   own_same kind scalars from false e h = tt
   own_same kind scalars from true e h = same_known s new spans from (λ i j has. h i j (named_new new old kind scalars e) has)

@@ -6,6 +6,7 @@ use Rattle.tree_core.specs.declared.scalars.Scalar.TheVariants.{Text}
 use Rattle.tree_core.specs.declared.span.Span.{Span}
 use Rattle.tree_core.specs.Syntax.{Syntax}
 use Rattle.tree_core.specs.View.{Spot, Row, slots_of, places_of}
+use Rattle.type_defs.specs.declared.kind.Kind.TheVariants.{Identifier}
 use Rattle.first_grammar.specs.declared.table.Kind.{Kind}
 use Rattle.first_grammar.specs.declared.table.Kind.TheVariants as k
 use Rattle.first_grammar.specs.declared.table.Word.{Word}
@@ -79,9 +80,9 @@ module _ (s : List ℕ) (spans : List Span) (old : List ℕ) where
 
     pub between_node : (kind : Kind) (i j : ℕ) (x : Syntax) → Node (At spans) s kind i j x → j ≤ length s → Between s i j (edits old spans x)
     between_node _ _ _ _ (built k.Identifier i j _ _ from n (a_name _ _ b e _ _ _ scan (no_parts _)) has) le =
-        one_name (is_named old 1 (Text (slice_range s b j) ∷ [])) from i j b (no_blank_before s i b scan.blank n) (name_word s w.Name b j refl scan.stands) has
+        one_name (is_named old Identifier (Text (slice_range s b j) ∷ [])) from i j b (no_blank_before s i b scan.blank n) (name_word s w.Name b j refl scan.stands) has
     between_node _ _ _ _ (built k.PropertyName i j _ _ from n (free_name word _ _ b e _ _ _ y scan (no_parts _)) has) le =
-        one_name (is_named old 1 (Text (slice_range s b j) ∷ [])) from i j b (no_blank_before s i b scan.blank n) (name_word s word b j y scan.stands) has
+        one_name (is_named old Identifier (Text (slice_range s b j) ∷ [])) from i j b (no_blank_before s i b scan.blank n) (name_word s word b j y scan.stands) has
     between_node _ _ _ _ (built k.Member i j scalars rows from n g has) le = between_fills _ i j scalars rows g le
     between_node _ _ _ _ (built k.Call i j scalars rows from n g has) le = between_fills _ i j scalars rows g le
     between_node _ _ _ _ (built k.Assignment i j scalars rows from n g has) le = between_fills _ i j scalars rows g le

@@ -1,14 +1,15 @@
 -- Where no identifier has the old name, or that is the new one, the text stays.
-use Rattle.std.proofs.Common.{◌≡◌, ◌+◌, ◌==◌, ◌&&◌, ℕ, Bool, true, false, cond, List, [], ◌∷◌, ◌++◌, length, Option, refl, sym, ◌∙◌, ap, subst, arith, append-nil}
+use Rattle.std.proofs.Common.{◌≡◌, ◌+◌, ◌&&◌, ℕ, Bool, true, false, cond, List, [], ◌∷◌, ◌++◌, length, Option, refl, sym, ◌∙◌, ap, subst, arith, append-nil}
 use Rattle.std.proofs.lemmas.Slice.Eq.{bytes_eq-Decides}
 use Rattle.std.proofs.lemmas.List.Folds.{drop_split}
 use Rattle.tree_core.specs.declared.scalars.Scalar.{Scalar}
 use Rattle.tree_core.specs.declared.scalars.Scalar.TheVariants.{Text, Truth, Null}
 use Rattle.tree_core.specs.declared.span.Span.{Span}
 use Rattle.tree_core.specs.Syntax.{Syntax, node, Slots, no_slots, slot, Places, no_places, hole, place}
+use Rattle.type_defs.specs.declared.kind.Kind.{Kind as NodeKind}
 use Rattle.first_grammar.specs.declared.table.Category.TheVariants as c
 use Rattle.first_grammar.specs.Spells.{At, Whole}
-use Rattle.first_rename.specs.Names.{is_named, is_name, renamed, renamed_slots, renamed_places, count_of, count_slots, count_places}
+use Rattle.first_rename.specs.Names.{is_identifier, is_named, is_name, renamed, renamed_slots, renamed_places, count_of, count_slots, count_places}
 use Rattle.first_rename.specs.Edits.{stretch, edits, slot_edits, place_edits, patched}
 use Rattle.first_rename.proofs.Spans.{between}
 use Rattle.first_rename.proofs.Same.{owns, same_tree, unmoved}
@@ -50,9 +51,9 @@ module _ (w : List ℕ) where
   name_is (Null ∷ []) e = absurd cc
   name_is (x ∷ y ∷ more) e = absurd cc
 
-  own_is : (kind : ℕ) (scalars : List Scalar) (named : Bool) → is_named w kind scalars ≡ named → cond named (Text w ∷ []) scalars ≡ scalars
+  own_is : (kind : NodeKind) (scalars : List Scalar) (named : Bool) → is_named w kind scalars ≡ named → cond named (Text w ∷ []) scalars ≡ scalars
   own_is kind scalars false e = refl
-  own_is kind scalars true e = name_is scalars (second_true (kind == 1) _ e)
+  own_is kind scalars true e = name_is scalars (second_true (is_identifier kind) _ e)
 
   mutual
     pub renamed_same : (t : Syntax) → renamed w w t ≡ t

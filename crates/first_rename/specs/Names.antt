@@ -1,14 +1,20 @@
 -- Trees in which the identifiers of one name have another.
-use Rattle.std.specs.Prelude.{◌≡◌, ◌<◌, ℕ, ◌+◌, Bool, true, false, ◌&&◌, ◌==◌, if◌then◌else◌, List, [], ◌∷◌, length, slice_index}
+use Rattle.std.specs.Prelude.{◌≡◌, ◌<◌, ℕ, ◌+◌, Bool, true, false, ◌&&◌, if◌then◌else◌, List, [], ◌∷◌, length, slice_index}
 use Rattle.std.specs.Str.{bytes_eq}
 use Rattle.tree_core.specs.declared.scalars.Scalar.{Scalar}
 use Rattle.tree_core.specs.declared.scalars.Scalar.TheVariants.{Text}
 use Rattle.tree_core.specs.Syntax.{Syntax, node, Slots, no_slots, slot, Places, no_places, hole, place}
+use Rattle.type_defs.specs.declared.kind.Kind.{Kind}
+use Rattle.type_defs.specs.declared.kind.Kind.TheVariants.{Identifier}
 use Rattle.first_grammar.specs.Words.{is_start, is_part, is_reserved}
 
 abbrev pub is_text : List ℕ → Scalar → Bool
 is_text name (Text w) = bytes_eq w name
 is_text name _ = false
+
+abbrev pub is_identifier : Kind → Bool
+is_identifier Identifier = true
+is_identifier kind = false
 
 -- the scalars are this name alone
 abbrev pub is_name : List ℕ → List Scalar → Bool
@@ -16,8 +22,8 @@ is_name name (x ∷ []) = is_text name x
 is_name name _ = false
 
 -- a node of this kind and these scalars is an identifier of this name
-abbrev pub is_named : List ℕ → ℕ → List Scalar → Bool
-is_named name kind scalars = kind == 1 && is_name name scalars
+abbrev pub is_named : List ℕ → Kind → List Scalar → Bool
+is_named name kind scalars = is_identifier kind && is_name name scalars
 
 abbrev mutual
   -- the tree in which each identifier named `old` is named `new`

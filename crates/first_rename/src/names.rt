@@ -7,6 +7,7 @@ ghost use Rattle.first_rename.specs.Names as spec;
 
 use first_grammar::words::{is_part, is_reserved, is_start};
 use tree_core::{Place, Scalar, Slot, Tree};
+use type_defs::Kind;
 
 /// Whether the bytes are a name and no reserved word (ECMA-262, clause 12.7, in ASCII alone).
 pub fn is_plain_name(bytes: &[u8]) -> bool
@@ -61,7 +62,7 @@ fn count_in_place(place: &Place, name: &[u8]) -> u64
 pub fn is_named(tree: &Tree, name: &[u8]) -> bool
     ensures { result ≡ spec.is_named name.now tree.now.kind tree.now.scalars }
 {
-    if tree.kind != 1 || tree.scalars.len() != 1 {
+    if !matches!(tree.kind, Kind::Identifier) || tree.scalars.len() != 1 {
         return false;
     }
     match tree.scalars.get(0) {

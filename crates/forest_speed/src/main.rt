@@ -15,27 +15,37 @@
 //! | `unload` | so too, and then the tree is unloaded |
 //! | `finds` | all expression statements are found, ten times |
 //! | `statements` | they are found once, and each is replaced by a new one |
+//! | `all` | all expressions are found, ten times |
+//! | `walks` | the places below the program are walked over by links, ten times |
+//! | `bindings` | the bindings of the program's scope are told, ten times |
+//! | `lookups` | a name that nothing declares is looked up from the program's scope, ten times |
 //!
 //! It ends with 0 where all went well, with 1 where the file cannot be read or the forest refuses,
 //! and with 2 where the words are others.
 #![tactic(auto)]
 
+ghost use Rattle.std.specs.Prelude.{◌<◌, length};
+
 use arena_trees::{load, unload};
 use ast_paths::replace;
 use cm_store::{FileStore, Store};
 use cm_text::{MAX_LENGTH, Source};
-use collections::{Paths, Pattern, find};
+use collections::{Below, Paths, Pattern, find};
 use js_source::parse;
 use node_arena::{Arena, NodeId, PlaceId};
 use node_builders::{BuildArg, build};
+use scope_lookup::{Scope, bindings, lookup};
 use std::alloc::Global;
 use std::env;
 use std::process::ExitCode;
 use tree_core::{Parsed, Units};
-use type_defs::{Group, Kind};
+use type_defs::{Group, Kind, NodeType};
 
 // The most identifiers that are replaced.
-const MOST_REPLACED: usize = 100_000;
+const MAX_REPLACED: usize = 100_000;
+
+// How many times a look over the whole program is taken.
+const TIMES: usize = 10;
 
 // What is done.
 #[derive(Clone, Copy, Debug, PartialEq, Eq)]
@@ -48,6 +58,10 @@ enum Stage {
     Unload,
     Finds,
     Statements,
+    All,
+    Walks,
+    Bindings,
+    Lookups,
 }
 
 // What went wrong.
@@ -57,8 +71,8 @@ enum Wrong {
     Forest,
 }
 
-// How many nodes the arena has at the end, how many places were found last, and how many of them got
-// new nodes.
+// How many nodes the arena has at the end, how many places were found last, and how many of them
+// got new nodes.
 #[derive(Clone, Copy, Debug)]
 struct Done {
     nodes: u32,
@@ -76,6 +90,10 @@ fn stage_named(name: &str) -> Option<Stage> {
         "unload" => Some(Stage::Unload),
         "finds" => Some(Stage::Finds),
         "statements" => Some(Stage::Statements),
+        "all" => Some(Stage::All),
+        "walks" => Some(Stage::Walks),
+        "bindings" => Some(Stage::Bindings),
+        "lookups" => Some(Stage::Lookups),
         _ => None,
     }
 }
@@ -104,7 +122,7 @@ fn read<S: Store>(alloc: Global, store: &mut S, name: &str) -> Result<Parsed, Wr
 
 // A new node of one argument.
 fn built(alloc: Global, arena: &mut Arena, kind: Kind, arg: BuildArg) -> Result<NodeId, Wrong> {
-    match build(alloc, arena, kind.number(), &[arg]) {
+    match build(alloc, arena, kind, &[arg]) {
         Ok(node) => Ok(node),
         Err(_) => Err(Wrong::Forest),
     }
@@ -150,12 +168,12 @@ fn replace_all(
     Ok(count)
 }
 
-// The places below the root with nodes of the kind or group.
-fn below_root(alloc: Global, arena: &Arena, kind: u8) -> Result<Paths, Wrong> {
+// The places below the root with nodes of the type.
+fn below_root(alloc: Global, arena: &Arena, of: NodeType) -> Result<Paths, Wrong> {
     let Ok(root) = Paths::from_slice(alloc, &[arena.root()]) else {
         return Err(Wrong::Forest);
     };
-    match find(alloc, arena, &root, kind, &Pattern::Any) {
+    match find(alloc, arena, &root, of, &Pattern::Any) {
         Ok(found) => Ok(found),
         Err(_) => Err(Wrong::Forest),
     }
@@ -170,9 +188,9 @@ fn find_and_replace(
     most: usize,
 ) -> Result<Done, Wrong> {
     for _time in 1..times {
-        let _found = below_root(alloc, arena, kind.number())?;
+        let _found = below_root(alloc, arena, NodeType::Kind(kind))?;
     }
-    let found = below_root(alloc, arena, kind.number())?;
+    let found = below_root(alloc, arena, NodeType::Kind(kind))?;
     let replaced = replace_all(alloc, arena, found.as_slice(), kind, most)?;
     Ok(Done {
         nodes: arena.nodes(),
@@ -181,11 +199,63 @@ fn find_and_replace(
     })
 }
 
-fn find_expressions(alloc: Global, arena: &Arena) -> Result<Done, Wrong> {
-    let found = below_root(alloc, arena, Group::Expression.number())?;
+fn find_expressions(alloc: Global, arena: &Arena, times: usize) -> Result<Done, Wrong> {
+    let mut found = 0;
+    for _time in 0..times {
+        found = below_root(alloc, arena, NodeType::Group(Group::Expression))?.len();
+    }
     Ok(Done {
         nodes: arena.nodes(),
-        found: found.len(),
+        found,
+        replaced: 0,
+    })
+}
+
+// How many places stand below the node.
+fn count_places(arena: &Arena, node: NodeId) -> usize
+    requires { node < length arena.now.forest.nodes }
+{
+    let mut walk = Below::new(arena, node);
+    let mut count: usize = 0;
+    for _turn in 0..arena.places() {
+        if walk.step(arena).is_none() {
+            return count;
+        }
+        count = count.saturating_add(1);
+    }
+    count
+}
+
+// How many names the scope declares, or how many scopes declare one that none does.
+fn look(alloc: Global, arena: &Arena, scope: &Scope, stage: Stage) -> Result<usize, Wrong>
+    requires { scope.now.owner < length arena.now.forest.nodes }
+{
+    match stage {
+        Stage::Bindings => match bindings(alloc, arena, scope) {
+            Ok(names) => Ok(names.len()),
+            Err(_) => Err(Wrong::Forest),
+        },
+        Stage::Lookups => match lookup(alloc, arena, scope, &Units::new(Vec::new(alloc))) {
+            Ok(found) => Ok(usize::from(found.is_some())),
+            Err(_) => Err(Wrong::Forest),
+        },
+        _ => Ok(count_places(arena, scope.owner)),
+    }
+}
+
+// Looks over the whole program, again and again.
+fn look_over(alloc: Global, arena: &Arena, stage: Stage) -> Result<Done, Wrong> {
+    let Some(owner) = arena.node_at(arena.root()) else {
+        return Err(Wrong::Forest);
+    };
+    let scope = Scope { owner, name: false };
+    let mut found = 0;
+    for _time in 0..TIMES {
+        found = look(alloc, arena, &scope, stage)?;
+    }
+    Ok(Done {
+        nodes: arena.nodes(),
+        found,
         replaced: 0,
     })
 }
@@ -206,15 +276,17 @@ fn ask(alloc: Global, arena: &mut Arena, stage: Stage) -> Result<Done, Wrong> {
             found: 0,
             replaced: 0,
         }),
-        Stage::Find => find_expressions(alloc, arena),
+        Stage::Find => find_expressions(alloc, arena, 1),
+        Stage::All => find_expressions(alloc, arena, TIMES),
         Stage::Names => find_and_replace(alloc, arena, Kind::Identifier, 1, 0),
         Stage::Replace | Stage::Unload => {
-            find_and_replace(alloc, arena, Kind::Identifier, 1, MOST_REPLACED)
+            find_and_replace(alloc, arena, Kind::Identifier, 1, MAX_REPLACED)
         }
-        Stage::Finds => find_and_replace(alloc, arena, Kind::ExpressionStatement, 10, 0),
+        Stage::Finds => find_and_replace(alloc, arena, Kind::ExpressionStatement, TIMES, 0),
         Stage::Statements => {
             find_and_replace(alloc, arena, Kind::ExpressionStatement, 1, usize::MAX)
         }
+        Stage::Walks | Stage::Bindings | Stage::Lookups => look_over(alloc, arena, stage),
     }
 }
 

@@ -9,6 +9,7 @@ use js_source::parse;
 use node_arena::{Arena, NodeId, PlaceId};
 use scope_lookup::{Scope, bindings, resolve};
 use std::alloc::Global;
+use type_defs::Kind;
 
 // The tree of a text in an arena.
 fn loaded(alloc: Global, text: &str) -> Option<Arena> {
@@ -122,6 +123,10 @@ fn names_resolve(rt: HostRuntime) {
     let alloc = rt.alloc();
     let nested = "var a; { let a; a; } a;";
     let foreign = "({ a }); export { b };";
+    let keys = "var k; ({ k: k, [k]: 1 }); o.k;";
+    let imports = "import d, { x as y } from 'm'; y; d; x;";
+    let parts = "var { p: q = 1, ...r } = o; q; r;";
+    let cases = "switch (0) { case 1: let s; s; } s;";
     // a text, the address of a name, and the one where it is declared
     let rows = [
         (nested, "/1/1/0", "/1/0/0/0"),
@@ -130,6 +135,35 @@ fn names_resolve(rt: HostRuntime) {
         (foreign, "/0/0/0/0", ""),
         (foreign, "/0/0/0/1", ""),
         (foreign, "/1/1/0", ""),
+        ("function f(a) { a; } f;", "/0/2/0/0", "/0/1"),
+        ("function f(a) { a; } f;", "/1/0", "/0/0"),
+        ("(a) => a;", "/0/0/1", "/0/0/0"),
+        ("(function g() { g; });", "/0/0/1/0/0", "/0/0/0"),
+        ("(function g() {}); g;", "/1/0", ""),
+        ("try {} catch (e) { e; }", "/0/1/1/0/0", "/0/1/0"),
+        ("class C {} C;", "/1/0", "/0/0"),
+        ("class C { static { var v; } } v;", "/1/0", ""),
+        ("(class B { m() { B; } });", "/0/0/2/0/1/1/0/0", "/0/0/0"),
+        ("var A; (class A extends A {});", "/1/0/1", "/0/0/0"),
+        (imports, "/1/0", "/0/1/1"),
+        (imports, "/2/0", "/0/0/0"),
+        (imports, "/3/0", ""),
+        ("import * as n from 'm'; n;", "/1/0", "/0/0/0"),
+        ("a: for (;;) break a; var a;", "/0/0", ""),
+        ("a: for (;;) break a; var a;", "/0/1/3/0", ""),
+        (keys, "/1/0/0/0", ""),
+        (keys, "/1/0/0/1", "/0/0/0"),
+        (keys, "/1/0/1/0", "/0/0/0"),
+        (keys, "/2/0/1", ""),
+        (parts, "/1/0", "/0/0/0/0/1/0"),
+        (parts, "/2/0", "/0/0/0/1/0"),
+        ("for (let i = 0;;) i; i;", "/0/3/0", "/0/0/0/0"),
+        ("for (let i = 0;;) i; i;", "/1/0", ""),
+        ("for (var [i] of a) ; i;", "/1/0", "/0/0/0/0/0"),
+        (cases, "/0/1/2/0", "/0/1/1/0/0"),
+        (cases, "/1/0", ""),
+        ("export { e }; var e;", "/0/1/0", "/1/0/0"),
+        ("export { e } from 'm'; var e;", "/0/1/0", ""),
     ];
     for (text, address, wanted) in rows {
         let arena = loaded(alloc, text).expect(&rt, "a tree");
@@ -139,12 +173,13 @@ fn names_resolve(rt: HostRuntime) {
         }
         assert!(rt;
             resolved(alloc, &arena, address) == Some(place),
-            "{address}"
+            "{text} {address}"
         );
     }
 }
 
-// The only name that the program declares: how long it is, and whether this address alone declares it.
+// The only name that the program declares: how long it is, and whether this address alone declares
+// it.
 fn only_binding(alloc: Global, arena: &Arena, address: &str) -> Option<(usize, bool)> {
     let owner = arena.node_at(arena.root())?;
     let names = bindings(alloc, arena, &Scope { owner, name: false }).ok()?;
@@ -161,8 +196,8 @@ fn a_program_declares_its_names(rt: HostRuntime) {
     assert!(rt; only_binding(alloc, &arena, "/0/0/0") == Some((1, true)));
 }
 
-// The number of the kind of the node at an address.
-fn kind_by(arena: &Arena, address: &str) -> Option<u8> {
+// The kind of the node at an address.
+fn kind_by(arena: &Arena, address: &str) -> Option<Kind> {
     let node = node_by(arena, address)?;
     Some(arena.kind(node))
 }
@@ -172,32 +207,33 @@ fn kind_by(arena: &Arena, address: &str) -> Option<u8> {
 #[test]
 fn sources_have_these_trees(rt: HostRuntime) {
     let alloc = rt.alloc();
-    // 1 Identifier, 9 ArrowFunctionExpression, 16 MemberExpression, 20 ChainExpression, 22
-    // UpdateExpression, 28 AssignmentExpression, 33 ObjectPattern, 38 Directive, 39
-    // ExpressionStatement, 41 EmptyStatement
-    let rows: [(&str, &str, Option<u8>); 22] = [
-        ("({a = 1}) => 0", "/0/0", Some(9)),
-        ("({a = 1}) => 0", "/0/0/0", Some(33)),
-        ("(a?.b).c", "/0/0", Some(16)),
-        ("a?.b.c", "/0/0", Some(20)),
-        ("a\n++b", "/1/0", Some(22)),
-        ("a\n++\nb", "/0/0", Some(1)),
+    let rows: [(&str, &str, Option<Kind>); 22] = [
+        (
+            "({a = 1}) => 0",
+            "/0/0",
+            Some(Kind::ArrowFunctionExpression),
+        ),
+        ("({a = 1}) => 0", "/0/0/0", Some(Kind::ObjectPattern)),
+        ("(a?.b).c", "/0/0", Some(Kind::MemberExpression)),
+        ("a?.b.c", "/0/0", Some(Kind::ChainExpression)),
+        ("a\n++b", "/1/0", Some(Kind::UpdateExpression)),
+        ("a\n++\nb", "/0/0", Some(Kind::Identifier)),
         ("a\n(b)", "/1", None),
         ("a\n[b]", "/1", None),
         ("a\n+ b", "/1", None),
-        ("a => {}\n[b]", "/1", Some(39)),
-        ("var a\n(b)", "/1", Some(39)),
-        ("do ; while (a) b", "/1", Some(39)),
-        ("do a; while (b); ;", "/1", Some(41)),
-        ("return\nx", "/1", Some(39)),
-        ("a\n/=b/c", "/0/0", Some(28)),
+        ("a => {}\n[b]", "/1", Some(Kind::ExpressionStatement)),
+        ("var a\n(b)", "/1", Some(Kind::ExpressionStatement)),
+        ("do ; while (a) b", "/1", Some(Kind::ExpressionStatement)),
+        ("do a; while (b); ;", "/1", Some(Kind::EmptyStatement)),
+        ("return\nx", "/1", Some(Kind::ExpressionStatement)),
+        ("a\n/=b/c", "/0/0", Some(Kind::AssignmentExpression)),
         ("a\n/=b/c", "/1", None),
         ("export {a}\nfrom 'b'", "/1", None),
-        ("export {a}\nb", "/1", Some(39)),
-        ("'a'\n'b'", "/1", Some(38)),
-        ("'a'\n+ 'b'", "/0", Some(39)),
-        ("('a')", "/0", Some(39)),
-        ("async\nfunction f() {}", "/0/0", Some(1)),
+        ("export {a}\nb", "/1", Some(Kind::ExpressionStatement)),
+        ("'a'\n'b'", "/1", Some(Kind::Directive)),
+        ("'a'\n+ 'b'", "/0", Some(Kind::ExpressionStatement)),
+        ("('a')", "/0", Some(Kind::ExpressionStatement)),
+        ("async\nfunction f() {}", "/0/0", Some(Kind::Identifier)),
     ];
     for (text, address, kind) in rows {
         let arena = loaded(alloc, text).expect(&rt, "a tree");

@@ -1,5 +1,7 @@
-pub mod Operators
+pub mod Contexts
+pub mod Fixed
 pub mod Forms
 pub mod Levels
-pub mod Fixed
+pub mod Operators
+pub mod Own
 pub mod Table

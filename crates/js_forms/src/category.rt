@@ -59,4 +59,36 @@ pub enum Category {
     ExportSpecifier,
     /// What an export declares.
     Declaration,
+    /// The expression with which the form begins.
+    Operand,
+    /// What a pattern that assigns takes in place of `Binding`: what may be assigned to, or a
+    /// pattern.
+    Assigned,
+    /// The same, perhaps with a default or behind `...`.
+    AssignedElement,
+    /// The same, but not behind `...`.
+    AssignedValue,
+    AssignedProperty,
+    /// The characters of a template between its expressions.
+    Characters,
+    /// The body of an arrow: an expression, or the body of a function.
+    ArrowBody,
+    /// A name, or a name with a default, that is a property's key as well.
+    ShortValue,
+    /// A declaration of variables, or an expression.
+    ForInit,
+    /// A declaration of one variable without a value, or what the loop assigns to.
+    ForLeft,
+    /// What a declaration of variables declares.
+    Declarator,
+    /// The one declarator of a declaration before `in` or `of`.
+    LoneDeclarator,
+    ImportDefault,
+    ImportNamespace,
+    /// What an import brings in: a default, a namespace, names.
+    Imports,
+    /// A name that is exported without a source.
+    OwnExport,
+    /// A function or a class that is exported by default.
+    DefaultDeclaration,
 }

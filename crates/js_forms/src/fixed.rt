@@ -1,31 +1,22 @@
-//! The scalars that a form determines. Those that a text spells come behind them.
+//! The scalars that a form determines, with which its pieces begin. Those that a text spells come
+//! behind them.
 
-ghost use Rattle.std.specs.Prelude.{◌≡◌, ◌∷◌, [], IfOk};
+ghost use Rattle.std.specs.Prelude.{◌≡◌, ◌++◌, ◌∷◌, [], IfOk};
 ghost use Rattle.tree_core.specs.declared.scalars.Scalar.TheVariants as scalar;
 ghost use Rattle.js_forms.specs.Fixed as spec;
+ghost use Rattle.js_forms.specs.Forms as forms;
 
 use crate::form::{Access, Form, Key, Link, Sort, Standing, Variable};
-use crate::operator::Operator;
+use crate::own::{access_of, key_of, link_of, sort_of, standing_of, variable_of};
+use crate::piece::{Fixed, Piece};
+use crate::table::first_pieces;
 use std::alloc::{AllocError, Global};
 use tree_core::{Scalar, Scalars, Units};
-
-// The text, with room for so many scalars in all.
-fn text(alloc: Global, room: usize, spelling: &str) -> Result<Scalars, AllocError>
-    ensures { IfOk result (λ all. all ≡ scalar.Text spelling.now ∷ []) }
-{
-    let units = Units::of_bytes(alloc, spelling.as_bytes())?;
-    Scalars::with_room(alloc, room)?.with(alloc, Scalar::Text(units))
-}
-
-fn truth(truth: bool) -> Scalars
-    ensures { result ≡ scalar.Truth truth ∷ [] }
-{
-    Scalars::one(Scalar::Truth(truth))
-}
+use type_defs::scalar_count;
 
 /// Whether the key is computed.
 pub fn is_computed(key: Key) -> bool
-    ensures { result ≡ spec.is_computed key }
+    ensures { result ≡ forms.is_computed key }
 {
     match key {
         Key::Plain => false,
@@ -35,7 +26,7 @@ pub fn is_computed(key: Key) -> bool
 
 /// Whether the member is static.
 pub fn is_static(standing: Standing) -> bool
-    ensures { result ≡ spec.is_static standing }
+    ensures { result ≡ forms.is_static standing }
 {
     match standing {
         Standing::Instance => false,
@@ -45,7 +36,7 @@ pub fn is_static(standing: Standing) -> bool
 
 /// Whether the link is `?.`.
 pub fn is_optional(link: Link) -> bool
-    ensures { result ≡ spec.is_optional link }
+    ensures { result ≡ forms.is_optional link }
 {
     match link {
         Link::Plain => false,
@@ -93,103 +84,98 @@ pub fn sort_name(sort: Sort) -> &'static str
     }
 }
 
-// `kind`, `method`, `shorthand` and `computed` of a property.
-fn property(
-    alloc: Global,
-    kind: &str,
-    method: bool,
-    shorthand: bool,
-    key: Key,
-) -> Result<Scalars, AllocError>
-    ensures { IfOk result (λ all. all ≡ spec.property kind.now method shorthand key) }
+fn with_text(alloc: Global, found: Scalars, text: &str) -> Result<Scalars, AllocError>
+    ensures { IfOk result (λ all. all ≡ found ++ spec.text text.now) }
 {
-    text(alloc, 4, kind)?
-        .with(alloc, Scalar::Truth(method))?
-        .with(alloc, Scalar::Truth(shorthand))?
-        .with(alloc, Scalar::Truth(is_computed(key)))
+    let units = Units::of_bytes(alloc, text.as_bytes())?;
+    found.with(alloc, Scalar::Text(units))
 }
 
-fn property_method(alloc: Global, access: Access, key: Key) -> Result<Scalars, AllocError>
-    ensures { IfOk result (λ all. all ≡ spec.property_method access key) }
+fn with_truth(alloc: Global, found: Scalars, truth: bool) -> Result<Scalars, AllocError>
+    ensures { IfOk result (λ all. all ≡ found ++ spec.truth truth) }
+{
+    found.with(alloc, Scalar::Truth(truth))
+}
+
+/// `kind` of a property, for what a method is to its object.
+pub fn property_kind(access: Access) -> &'static str
+    ensures { result.now ≡ spec.property_kind access }
 {
     match access {
-        Access::Get | Access::Set => property(alloc, access_name(access), false, false, key),
-        Access::Method | Access::Constructor => property(alloc, "init", true, false, key),
+        Access::Get | Access::Set => access_name(access),
+        Access::Method | Access::Constructor => "init",
     }
 }
 
-fn literal(alloc: Global, sort: Sort) -> Result<Scalars, AllocError>
-    ensures { IfOk result (λ all. all ≡ spec.literal sort) }
+/// Whether a property is a method.
+pub fn is_method(form: Form) -> bool
+    ensures { result ≡ spec.is_method form }
 {
-    let scalars = text(alloc, 3, sort_name(sort))?;
+    match form {
+        Form::PropertyMethod(access, _, _) => match access {
+            Access::Method | Access::Constructor => true,
+            Access::Get | Access::Set => false,
+        },
+        _ => false,
+    }
+}
+
+fn with_operator(alloc: Global, found: Scalars, form: Form) -> Result<Scalars, AllocError>
+    ensures { IfOk result (λ all. all ≡ found ++ spec.fixed form Fixed.Operator) }
+{
+    match form.operator() {
+        Some(operator) => with_text(alloc, found, operator.spelling()),
+        None => Ok(found),
+    }
+}
+
+fn with_word_value(alloc: Global, found: Scalars, sort: Sort) -> Result<Scalars, AllocError>
+    ensures { IfOk result (λ all. all ≡ found ++ spec.word_value sort) }
+{
     match sort {
-        Sort::True => scalars
-            .with(alloc, Scalar::Truth(true))?
-            .with(alloc, Scalar::Null),
-        Sort::False => scalars
-            .with(alloc, Scalar::Truth(false))?
-            .with(alloc, Scalar::Null),
-        Sort::Null => scalars.with(alloc, Scalar::Null)?.with(alloc, Scalar::Null),
-        _ => Ok(scalars),
+        Sort::True => with_truth(alloc, found, true),
+        Sort::False => with_truth(alloc, found, false),
+        Sort::Null => found.with(alloc, Scalar::Null),
+        _ => Ok(found),
     }
 }
 
-// Those of an expression with an operator.
-fn operation(alloc: Global, form: Form, operator: Operator) -> Result<Scalars, AllocError>
-    ensures { IfOk result (λ all. all ≡ spec.operation form operator) }
+fn with_word_flags(alloc: Global, found: Scalars, sort: Sort) -> Result<Scalars, AllocError>
+    ensures { IfOk result (λ all. all ≡ found ++ spec.word_flags sort) }
 {
-    let operator = operator.spelling();
-    match form {
-        Form::Prefix(_) => text(alloc, 2, operator)?.with(alloc, Scalar::Truth(true)),
-        Form::Postfix(_) => text(alloc, 2, operator)?.with(alloc, Scalar::Truth(false)),
-        _ => text(alloc, 1, operator),
+    match sort {
+        Sort::True | Sort::False | Sort::Null => found.with(alloc, Scalar::Null),
+        _ => Ok(found),
     }
 }
 
-// Those of a method, a field or a property.
-fn member(alloc: Global, form: Form) -> Result<Scalars, AllocError>
-    ensures { IfOk result (λ all. all ≡ spec.member form) }
+// The scalars, and this one of the form behind them.
+fn with_fixed(
+    alloc: Global,
+    found: Scalars,
+    form: Form,
+    fixed: Fixed,
+) -> Result<Scalars, AllocError>
+    ensures { IfOk result (λ all. all ≡ found ++ spec.fixed form fixed) }
 {
-    match form {
-        Form::Property(key) => property(alloc, "init", false, false, key),
-        Form::ShorthandProperty => property(alloc, "init", false, true, Key::Plain),
-        Form::PropertyMethod(access, _, key) => property_method(alloc, access, key),
-        Form::Method(access, standing, _, key) => text(alloc, 3, access_name(access))?
-            .with(alloc, Scalar::Truth(is_static(standing)))?
-            .with(alloc, Scalar::Truth(is_computed(key))),
-        Form::Field(standing, key) => {
-            truth(is_computed(key)).with(alloc, Scalar::Truth(is_static(standing)))
-        }
-        Form::PatternProperty(key) => truth(false).with(alloc, Scalar::Truth(is_computed(key))),
-        Form::PatternShorthand => truth(true).with(alloc, Scalar::Truth(false)),
-        _ => Ok(Scalars::new()),
-    }
-}
-
-// Those of a function, a member expression, a call and the rest.
-fn other(alloc: Global, form: Form) -> Result<Scalars, AllocError>
-    ensures { IfOk result (λ all. all ≡ spec.other form) }
-{
-    match form {
-        Form::Literal(sort) => literal(alloc, sort),
-        Form::Function(flow) | Form::MethodValue(flow) | Form::FunctionDeclaration(flow) => {
-            truth(flow.is_async()).with(alloc, Scalar::Truth(flow.is_generator()))
-        }
-        Form::GetterValue | Form::SetterValue => truth(false).with(alloc, Scalar::Truth(false)),
-        Form::Arrow(flow) => Ok(truth(flow.is_async())),
-        Form::Dot(link) => truth(false).with(alloc, Scalar::Truth(is_optional(link))),
-        Form::Index(link) => truth(true).with(alloc, Scalar::Truth(is_optional(link))),
-        Form::Call(link) => Ok(truth(is_optional(link))),
-        Form::NewTarget => text(alloc, 1, "new.target"),
-        Form::ImportMeta => text(alloc, 1, "import.meta"),
-        Form::Variables(variable) | Form::HeadVariables(variable) => {
-            text(alloc, 1, variable_name(variable))
-        }
-        Form::Yield | Form::YieldValue | Form::ForOf => Ok(truth(false)),
-        Form::YieldStar | Form::ForAwait => Ok(truth(true)),
-        Form::ImportSpecifier | Form::ExportSpecifier => Ok(truth(false)),
-        Form::ImportShorthand | Form::ExportShorthand => Ok(truth(true)),
-        _ => member(alloc, form),
+    match fixed {
+        Fixed::True => with_truth(alloc, found, true),
+        Fixed::False => with_truth(alloc, found, false),
+        Fixed::Operator => with_operator(alloc, found, form),
+        Fixed::Async => with_truth(alloc, found, form.flow().is_async()),
+        Fixed::Generator => with_truth(alloc, found, form.flow().is_generator()),
+        Fixed::Static => with_truth(alloc, found, is_static(standing_of(form))),
+        Fixed::Computed => with_truth(alloc, found, is_computed(key_of(form))),
+        Fixed::Optional => with_truth(alloc, found, is_optional(link_of(form))),
+        Fixed::MethodKind => with_text(alloc, found, access_name(access_of(form))),
+        Fixed::PropertyKind => with_text(alloc, found, property_kind(access_of(form))),
+        Fixed::IsMethod => with_truth(alloc, found, is_method(form)),
+        Fixed::DeclarationKind => with_text(alloc, found, variable_name(variable_of(form))),
+        Fixed::LiteralKind => with_text(alloc, found, sort_name(sort_of(form))),
+        Fixed::WordValue => with_word_value(alloc, found, sort_of(form)),
+        Fixed::WordFlags => with_word_flags(alloc, found, sort_of(form)),
+        Fixed::NewTarget => with_text(alloc, found, "new.target"),
+        Fixed::ImportMeta => with_text(alloc, found, "import.meta"),
     }
 }
 
@@ -197,8 +183,19 @@ fn other(alloc: Global, form: Form) -> Result<Scalars, AllocError>
 pub fn scalars(alloc: Global, form: Form) -> Result<Scalars, AllocError>
     ensures { IfOk result (λ all. all ≡ spec.scalars form) }
 {
-    match form.operator() {
-        Some(operator) => operation(alloc, form, operator),
-        None => other(alloc, form),
+    leading(alloc, form, first_pieces(form))
+}
+
+// The scalars with which the pieces begin.
+fn leading(alloc: Global, form: Form, pieces: &[Piece]) -> Result<Scalars, AllocError>
+    ensures { IfOk result (λ all. all ≡ spec.leading form pieces.now) }
+{
+    let mut found = Scalars::with_room(alloc, scalar_count(form.kind()))?;
+    for piece in pieces {
+        match *piece {
+            Piece::Scalar(fixed) => found = with_fixed(alloc, found, form, fixed)?,
+            _ => return Ok(found),
+        }
     }
+    Ok(found)
 }

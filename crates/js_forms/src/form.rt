@@ -1,9 +1,11 @@
 //! Forms: the kinds of nodes with what tells their spellings apart.
 
-ghost use Rattle.std.specs.Prelude.{◌≡◌};
+ghost use Rattle.std.specs.Prelude.{◌≡◌, ◌<◌};
 ghost use Rattle.js_forms.specs.Forms as spec;
+ghost use Rattle.js_forms.specs.Table.{kind_of, place_of};
 
 use crate::operator::Operator;
+use crate::table::kind;
 use type_defs::Kind;
 
 /// How a function runs.
@@ -204,129 +206,111 @@ pub enum Form {
 impl Form {
     /// The kind of the node.
     pub fn kind(self) -> Kind
-        ensures { result ≡ spec.kind_of self }
+        ensures { result ≡ kind_of self }
     {
-        if let Some(kind) = self.statement_kind() {
-            return kind;
-        }
-        if let Some(kind) = self.operation_kind() {
-            return kind;
-        }
-        match self.pattern_kind() {
-            Some(kind) => kind,
-            None => self.other_kind(),
-        }
+        kind(self)
     }
 
-    // The kind of an expression that has operands.
-    fn operation_kind(self) -> Option<Kind>
-        ensures { result ≡ spec.operation_kind self }
+    /// The place of the form in the table.
+    pub fn place(self) -> usize
+        ensures place { result ≡ place_of self }
+        ensures within { result < 94 }
     {
         match self {
-            Form::Tagged => Some(Kind::TaggedTemplateExpression),
-            Form::Dot(_) | Form::Index(_) => Some(Kind::MemberExpression),
-            Form::Call(_) => Some(Kind::CallExpression),
-            Form::New => Some(Kind::NewExpression),
-            Form::ImportCall => Some(Kind::ImportExpression),
-            Form::Chain => Some(Kind::ChainExpression),
-            Form::NewTarget | Form::ImportMeta => Some(Kind::MetaProperty),
-            Form::Prefix(_) | Form::Postfix(_) => Some(Kind::UpdateExpression),
-            Form::Unary(_) => Some(Kind::UnaryExpression),
-            Form::Await => Some(Kind::AwaitExpression),
-            Form::Yield | Form::YieldValue | Form::YieldStar => Some(Kind::YieldExpression),
-            Form::Binary(_) => Some(Kind::BinaryExpression),
-            Form::Logical(_) => Some(Kind::LogicalExpression),
-            Form::Conditional => Some(Kind::ConditionalExpression),
-            Form::Assignment(_) => Some(Kind::AssignmentExpression),
-            Form::Sequence => Some(Kind::SequenceExpression),
-            _ => None,
-        }
-    }
-
-    // The kind of a pattern or of a part of one.
-    fn pattern_kind(self) -> Option<Kind>
-        ensures { result ≡ spec.pattern_kind self }
-    {
-        match self {
-            Form::ArrayPattern => Some(Kind::ArrayPattern),
-            Form::ObjectPattern => Some(Kind::ObjectPattern),
-            Form::PatternProperty(_) | Form::PatternShorthand => Some(Kind::AssignmentProperty),
-            Form::Default => Some(Kind::AssignmentPattern),
-            Form::Rest | Form::NameRest => Some(Kind::RestElement),
-            _ => None,
-        }
-    }
-
-    // The kind of all else.
-    fn other_kind(self) -> Kind
-        ensures { result ≡ spec.other_kind self }
-    {
-        match self {
-            Form::PrivateName => Kind::PrivateIdentifier,
-            Form::Literal(_) => Kind::Literal,
-            Form::This => Kind::ThisExpression,
-            Form::Super => Kind::Super,
-            Form::Array => Kind::ArrayExpression,
-            Form::Object => Kind::ObjectExpression,
-            Form::Property(_) | Form::ShorthandProperty | Form::PropertyMethod(_, _, _) =>
-                Kind::Property,
-            Form::Function(_) | Form::MethodValue(_) | Form::GetterValue | Form::SetterValue =>
-                Kind::FunctionExpression,
-            Form::Arrow(_) => Kind::ArrowFunctionExpression,
-            Form::Class => Kind::ClassExpression,
-            Form::ClassBody => Kind::ClassBody,
-            Form::Method(_, _, _, _) => Kind::MethodDefinition,
-            Form::Field(_, _) => Kind::PropertyDefinition,
-            Form::StaticBlock => Kind::StaticBlock,
-            Form::Template => Kind::TemplateLiteral,
-            Form::TemplateElement => Kind::TemplateElement,
-            Form::Spread => Kind::SpreadElement,
-            _ => Kind::Identifier,
-        }
-    }
-
-    // The kind of a statement, or of a part of one.
-    fn statement_kind(self) -> Option<Kind>
-        ensures { result ≡ spec.statement_kind self }
-    {
-        match self {
-            Form::Program => Some(Kind::Program),
-            Form::Directive => Some(Kind::Directive),
-            Form::Block | Form::FunctionBody => Some(Kind::BlockStatement),
-            Form::Empty => Some(Kind::EmptyStatement),
-            Form::Debugger => Some(Kind::DebuggerStatement),
-            Form::With => Some(Kind::WithStatement),
-            Form::Return => Some(Kind::ReturnStatement),
-            Form::Labeled => Some(Kind::LabeledStatement),
-            Form::Break => Some(Kind::BreakStatement),
-            Form::Continue => Some(Kind::ContinueStatement),
-            Form::If => Some(Kind::IfStatement),
-            Form::Switch => Some(Kind::SwitchStatement),
-            Form::Case | Form::DefaultCase => Some(Kind::SwitchCase),
-            Form::Throw => Some(Kind::ThrowStatement),
-            Form::Try => Some(Kind::TryStatement),
-            Form::Catch => Some(Kind::CatchClause),
-            Form::While => Some(Kind::WhileStatement),
-            Form::DoWhile => Some(Kind::DoWhileStatement),
-            Form::For => Some(Kind::ForStatement),
-            Form::ForIn => Some(Kind::ForInStatement),
-            Form::ForOf | Form::ForAwait => Some(Kind::ForOfStatement),
-            Form::Variables(_) | Form::HeadVariables(_) => Some(Kind::VariableDeclaration),
-            Form::Declarator => Some(Kind::VariableDeclarator),
-            Form::FunctionDeclaration(_) => Some(Kind::FunctionDeclaration),
-            Form::ClassDeclaration => Some(Kind::ClassDeclaration),
-            Form::Import => Some(Kind::ImportDeclaration),
-            Form::ImportSpecifier | Form::ImportShorthand => Some(Kind::ImportSpecifier),
-            Form::ImportDefault => Some(Kind::ImportDefaultSpecifier),
-            Form::ImportNamespace => Some(Kind::ImportNamespaceSpecifier),
-            Form::ExportDeclaration | Form::ExportNames => Some(Kind::ExportNamedDeclaration),
-            Form::ExportSpecifier | Form::ExportShorthand => Some(Kind::ExportSpecifier),
-            Form::ExportDefault | Form::ExportDefaultDeclaration => Some(
-                Kind::ExportDefaultDeclaration,
-            ),
-            Form::ExportAll => Some(Kind::ExportAllDeclaration),
-            Form::ExpressionStatement => Some(Kind::ExpressionStatement),
-            _ => None,
+            Form::Name => 0,
+            Form::AnyName => 1,
+            Form::PrivateName => 2,
+            Form::Literal(_) => 3,
+            Form::This => 4,
+            Form::Super => 5,
+            Form::Array => 6,
+            Form::Object => 7,
+            Form::Property(_) => 8,
+            Form::ShorthandProperty => 9,
+            Form::PropertyMethod(_, _, _) => 10,
+            Form::Function(_) => 11,
+            Form::MethodValue(_) => 12,
+            Form::GetterValue => 13,
+            Form::SetterValue => 14,
+            Form::Arrow(_) => 15,
+            Form::Class => 16,
+            Form::ClassBody => 17,
+            Form::Method(_, _, _, _) => 18,
+            Form::Field(_, _) => 19,
+            Form::StaticBlock => 20,
+            Form::Template => 21,
+            Form::TemplateElement => 22,
+            Form::Tagged => 23,
+            Form::Dot(_) => 24,
+            Form::Index(_) => 25,
+            Form::Call(_) => 26,
+            Form::New => 27,
+            Form::ImportCall => 28,
+            Form::Chain => 29,
+            Form::NewTarget => 30,
+            Form::ImportMeta => 31,
+            Form::Prefix(_) => 32,
+            Form::Postfix(_) => 33,
+            Form::Unary(_) => 34,
+            Form::Await => 35,
+            Form::Yield => 36,
+            Form::YieldValue => 37,
+            Form::YieldStar => 38,
+            Form::Binary(_) => 39,
+            Form::Logical(_) => 40,
+            Form::Conditional => 41,
+            Form::Assignment(_) => 42,
+            Form::Sequence => 43,
+            Form::Spread => 44,
+            Form::ArrayPattern => 45,
+            Form::ObjectPattern => 46,
+            Form::PatternProperty(_) => 47,
+            Form::PatternShorthand => 48,
+            Form::Default => 49,
+            Form::Rest => 50,
+            Form::NameRest => 51,
+            Form::Program => 52,
+            Form::Directive => 53,
+            Form::ExpressionStatement => 54,
+            Form::Block => 55,
+            Form::FunctionBody => 56,
+            Form::Empty => 57,
+            Form::Debugger => 58,
+            Form::With => 59,
+            Form::Return => 60,
+            Form::Labeled => 61,
+            Form::Break => 62,
+            Form::Continue => 63,
+            Form::If => 64,
+            Form::Switch => 65,
+            Form::Case => 66,
+            Form::DefaultCase => 67,
+            Form::Throw => 68,
+            Form::Try => 69,
+            Form::Catch => 70,
+            Form::While => 71,
+            Form::DoWhile => 72,
+            Form::For => 73,
+            Form::ForIn => 74,
+            Form::ForOf => 75,
+            Form::ForAwait => 76,
+            Form::Variables(_) => 77,
+            Form::HeadVariables(_) => 78,
+            Form::Declarator => 79,
+            Form::FunctionDeclaration(_) => 80,
+            Form::ClassDeclaration => 81,
+            Form::Import => 82,
+            Form::ImportSpecifier => 83,
+            Form::ImportShorthand => 84,
+            Form::ImportDefault => 85,
+            Form::ImportNamespace => 86,
+            Form::ExportDeclaration => 87,
+            Form::ExportNames => 88,
+            Form::ExportSpecifier => 89,
+            Form::ExportShorthand => 90,
+            Form::ExportDefault => 91,
+            Form::ExportDefaultDeclaration => 92,
+            Form::ExportAll => 93,
         }
     }
 

@@ -1,36 +1,48 @@
 //! The table of forms: how each kind of node is spelled. Readers, printers and checks interpret it.
 //!
 //! A form is a kind with what its spelling needs to be told: the operator, how a function runs, whether
-//! a key is computed. Its parts are few sorts of tokens and children. What a form begins with is
-//! chosen by looking ahead, and is no part of the table.
+//! a key is computed. Its pieces are few sorts of tokens and children. Which form comes is chosen by
+//! looking ahead, and is no part of the table.
 #![tactic(auto)]
 
 mod category;
+mod context;
 mod fixed;
 mod form;
 mod levels;
 mod operator;
-mod part;
+mod own;
+mod piece;
 mod table;
 
 pub use category::Category;
+pub use context::{Context, Scope};
 pub use fixed::{
-    access_name, is_computed, is_optional, is_static, scalars, sort_name, variable_name,
+    access_name, is_computed, is_method, is_optional, is_static, property_kind, scalars, sort_name,
+    variable_name,
 };
 pub use form::{Access, Flow, Form, Key, Link, Sort, Standing, Variable};
-pub use levels::{Left, first_child, level, right};
-pub use operator::{Operator, assigning, binary, logical, unary};
-pub use part::{List, MetaWord, Part, Place, Scope};
-pub use table::parts;
+pub use levels::{
+    ADDITIVE, ASSIGNMENT, BIT_AND, BIT_OR, BIT_XOR, CALL, CHAIN, COALESCE, CONDITIONAL, EQUALITY,
+    EXPONENT, LOGICAL_AND, Left, MEMBER, MULTIPLICATIVE, PRIMARY, RELATIONAL, SEQUENCE, SHIFT,
+    UNARY, UPDATE, first_child, level, right, right_level, spelled_level,
+};
+pub use operator::{
+    Infix, Operator, OperatorRow, Prefix, Role, assigning, binary, has_role, logical, operators,
+    unary,
+};
+pub use own::{access_of, key_of, link_of, plain, sort_of, standing_of, variable_of};
+pub use piece::{Blank, Choice, Fixed, Lexeme, MetaWord, Own, Piece, Place, Spelling, Test};
+pub use table::{Row, Spelled, first_pieces, first_row, pieces, second_row, spellings};
 
 #[cfg(test)]
 mod tests {
-    use crate::{Flow, Form, Link, level, parts, scalars};
+    use crate::{Flow, Form, Link, first_pieces, level, scalars};
     use std::alloc::AllocError;
 
     #[test]
     fn table(rt: HostRuntime) -> Result<(), AllocError> {
-        assert!(rt; parts(Form::If).len() == 6);
+        assert!(rt; first_pieces(Form::If).len() == 8);
         assert!(rt; level(Form::Dot(Link::Plain)) == 18);
         assert!(rt; scalars(rt.alloc(), Form::Function(Flow::Async))?.len() == 2);
         Ok(())

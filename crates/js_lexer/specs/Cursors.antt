@@ -1,7 +1,6 @@
 -- A cursor over the tokens of a text, and the steps of which each rule of a reader is made.
 use Rattle.std.specs.Prelude.{ℕ, ◌+◌, ◌-◌, ◌≤◌, ◌==◌, ◌&&◌, min, Bool, true, false, List, [], ◌∷◌, ◌++◌, length, drop, nat_lt, Option, Some, None, is_some, is_none, unwrap_or, Result, Ok, Err, All, if◌then◌else◌}
-use Rattle.js_tokens.specs.Punctuators.{punctuator_number}
-use Rattle.js_tokens.specs.Words.{word_number}
+use Rattle.js_tokens.specs.Tokens.{is_punctuator, is_word as word_is}
 use Rattle.js_tokens.specs.declared.punctuator.Punctuator.{Punctuator}
 use Rattle.js_tokens.specs.declared.token.Goal.{Goal}
 use Rattle.js_tokens.specs.declared.token.Goal.TheVariants.{Div}
@@ -97,12 +96,10 @@ is_end token.End = true
 is_end _ = false
 
 abbrev pub is_mark : TokenKind → Punctuator → Bool
-is_mark (token.Punctuator found) mark = punctuator_number found == punctuator_number mark
-is_mark _ mark = false
+is_mark = is_punctuator
 
 abbrev pub is_word : TokenKind → Word → Bool
-is_word (token.Name found) word = word_number found == word_number word
-is_word _ word = false
+is_word = word_is
 
 -- past the next token, unless it is the end
 unfoldable pub taken : Input → Input

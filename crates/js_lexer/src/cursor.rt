@@ -162,24 +162,6 @@ fn is_end(kind: TokenKind) -> bool
     }
 }
 
-fn is_mark(kind: TokenKind, mark: Punctuator) -> bool
-    ensures { result ≡ spec.is_mark kind mark }
-{
-    match kind {
-        TokenKind::Punctuator(found) => found.number() == mark.number(),
-        _ => false,
-    }
-}
-
-fn is_word(kind: TokenKind, word: Word) -> bool
-    ensures { result ≡ spec.is_word kind word }
-{
-    match kind {
-        TokenKind::Name(found) => found.number() == word.number(),
-        _ => false,
-    }
-}
-
 /// A place between two tokens of a source.
 #[derive(Drop)]
 pub struct Cursor<'a> {
@@ -290,14 +272,14 @@ impl<'a> Cursor<'a> {
     pub fn sees_mark(&self, mark: Punctuator) -> bool
         ensures { result ≡ spec.is_mark self.now.token.kind mark }
     {
-        is_mark(self.token.kind, mark)
+        self.token.kind.is_punctuator(mark)
     }
 
     /// Whether the next token is this word, spelled without an escape.
     pub fn sees_word(&self, word: Word) -> bool
         ensures { result ≡ spec.is_word self.now.token.kind word }
     {
-        is_word(self.token.kind, word)
+        self.token.kind.is_word(word)
     }
 
     /// Whether the text ends here, and nothing was refused.

@@ -17,6 +17,8 @@ mod scanning;
 #[cfg(test)]
 mod tests;
 
+pub use blanks::has_line_end;
 pub use cursor::Cursor;
 pub use fault::{LexFault, LexFaultKind, Refusal, SyntaxFault, SyntaxKind};
+pub use parts::breaks_line;
 pub use scanning::{next, rescan, scan};

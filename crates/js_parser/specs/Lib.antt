@@ -1,3 +1,3 @@
 pub mod Callable
-pub mod Looks
+pub mod Lookahead
 pub mod Refusals

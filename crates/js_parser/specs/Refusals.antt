@@ -8,17 +8,17 @@ use Rattle.js_lexer.specs.declared.fault.SyntaxKind.{SyntaxKind}
 use Rattle.js_lexer.specs.declared.fault.SyntaxKind.TheVariants.{Lex}
 use Rattle.js_lexer.specs.Scan.{scan}
 
--- the refusal names a place of a text of the length, or is for want of memory
+-- the refusal names a place of a text of the length, or is for expected of memory
 abbrev pub RefusedWithin : ℕ → Refusal → Type 0
 RefusedWithin len (Syntax fault) = fault.at ≤ len
 RefusedWithin len NoMemory = Unit
 
--- a broken element is what the lexer finds at the offset, in the goal that takes every element: `/` begins a regular expression, and `}` goes on with a template (ECMA-262, clause 12)
-abbrev pub BrokenAt : List ℕ → ℕ → SyntaxKind → Type 0
-BrokenAt text at (Lex kind) = scan text at RegExpOrTemplateTail ≡ Err (record { at = at; kind = kind })
-BrokenAt text at _ = Unit
+-- a malformed token is what the lexer finds at the offset, in the goal that takes every input element: `/` begins a regular expression, and `}` goes on with a template (ECMA-262, clause 12)
+abbrev pub MalformedAt : List ℕ → ℕ → SyntaxKind → Type 0
+MalformedAt text at (Lex kind) = scan text at RegExpOrTemplateTail ≡ Err (record { at = at; kind = kind })
+MalformedAt text at _ = Unit
 
--- a refusal for a broken element is at one
-abbrev pub RefusedBroken : List ℕ → Refusal → Type 0
-RefusedBroken text (Syntax fault) = BrokenAt text fault.at fault.kind
-RefusedBroken text NoMemory = Unit
+-- a refusal for a malformed token is at one
+abbrev pub RefusedMalformed : List ℕ → Refusal → Type 0
+RefusedMalformed text (Syntax fault) = MalformedAt text fault.at fault.kind
+RefusedMalformed text NoMemory = Unit

@@ -1,38 +1,45 @@
 //! Expressions in parentheses, and arrows. What stands in parentheses is read as expressions, and
-//! turned into parameters where `=>` follows.
+//! converted into parameters where `=>` follows.
 
 ghost use Rattle.js_parser.specs.Callable.{Callable};
 
+use crate::expected::Expected;
 use crate::grammar::Grammar;
-use crate::grown::{Children, Grown, Nature};
-use crate::look::second_is_mark;
+use crate::lookahead::peek_is_punctuator;
+use crate::nodes::{Children, Parts, ReadNode, Summary};
+use crate::pattern::refused_pattern;
+use crate::programs::MAX_LEVELS;
 use crate::reader::Reader;
-use crate::reading::MOST_LEVELS;
-use crate::tokens::{expect_mark, same_line};
-use crate::want::{Context, Want};
-use js_forms::{Category, Flow, Form, Link, List, Place, Scope};
+use crate::spelled::behind_first;
+use crate::tokens::expect_punctuator;
+use js_forms::{
+    ASSIGNMENT, Category, Context, Flow, Form, Link, PRIMARY, Place, Scope, first_pieces,
+};
 use js_lexer::Refusal;
 use js_tokens::Punctuator;
-use pattern_cover::Unfit;
 use std::alloc::Global;
 
 /// What stands in parentheses, without the closing one.
 #[derive(Drop)]
 struct Inside {
-    first: Option<Grown>,
+    first: Option<ReadNode>,
     more: Children,
     /// Whether it holds what no expression in parentheses does: nothing, a comma at its end, or a rest.
     parameters: bool,
 }
 
-impl<F: Fn(Global, &mut Reader<'_>, u32, Want) -> Result<Grown, Refusal>> Grammar<F> {
+impl<F: Fn(Global, &mut Reader<'_>, u32, Expected) -> Result<ReadNode, Refusal>> Grammar<F> {
     /// `async` and an arrow with one name as its parameter.
-    pub fn async_arrow(&self, reader: &mut Reader<'_>, context: Context) -> Result<Grown, Refusal>
+    pub fn async_arrow(
+        &self,
+        reader: &mut Reader<'_>,
+        context: Context,
+    ) -> Result<ReadNode, Refusal>
         requires { Callable self.now.depth (F.pre self.now.node) }
     {
         let start = reader.cursor.start();
         reader.cursor.take();
-        let name = self.node(reader, context.want(Category::Name, 0))?;
+        let name = self.node(reader, Expected::new(Category::Name, 0, context))?;
         self.lone_arrow(reader, context, start, Flow::Async, name)
     }
 
@@ -43,8 +50,8 @@ impl<F: Fn(Global, &mut Reader<'_>, u32, Want) -> Result<Grown, Refusal>> Gramma
         context: Context,
         start: u32,
         flow: Flow,
-        name: Grown,
-    ) -> Result<Grown, Refusal>
+        name: ReadNode,
+    ) -> Result<ReadNode, Refusal>
         requires { Callable self.now.depth (F.pre self.now.node) }
     {
         let parameters = self.alone(name)?;
@@ -52,6 +59,7 @@ impl<F: Fn(Global, &mut Reader<'_>, u32, Want) -> Result<Grown, Refusal>> Gramma
     }
 
     // The arrow with these parameters: `=>` and its body.
+    #[inline(never)]
     fn arrow(
         &self,
         reader: &mut Reader<'_>,
@@ -59,38 +67,33 @@ impl<F: Fn(Global, &mut Reader<'_>, u32, Want) -> Result<Grown, Refusal>> Gramma
         start: u32,
         flow: Flow,
         parameters: Children,
-    ) -> Result<Grown, Refusal>
+    ) -> Result<ReadNode, Refusal>
         requires { Callable self.now.depth (F.pre self.now.node) }
     {
-        same_line(&mut reader.cursor)?;
-        expect_mark(&mut reader.cursor, Punctuator::Arrow)?;
         let form = Form::Arrow(flow);
-        let body = if reader.cursor.sees_mark(Punctuator::OpenBrace) {
-            let inside = context.within(Scope::Body, flow);
-            self.node(reader, inside.want(Category::FunctionBody, 0))?
-        } else {
-            let inside = context.in_arrow(flow);
-            self.node(reader, inside.want(Category::Expression, 1))?
-        };
-        self.over_list_and_one(reader, form, start, parameters, body)
+        let mut read = Parts::new(self.alloc, form)?;
+        read.push_list(parameters)?;
+        let left = behind_first(first_pieces(form));
+        self.pieces(reader, left, form, context, &mut read)?;
+        self.finish(reader, form, start, read)
     }
 
     /// An expression in parentheses, or an arrow that begins with one.
-    pub fn group(&self, reader: &mut Reader<'_>, want: Want) -> Result<Grown, Refusal>
+    pub fn group(&self, reader: &mut Reader<'_>, expected: Expected) -> Result<ReadNode, Refusal>
         requires { Callable self.now.depth (F.pre self.now.node) }
     {
         let start = reader.cursor.start();
         reader.cursor.take();
         let opening = reader.cursor.start();
-        let inside = self.inside(reader, want.context.free())?;
+        let inside = self.inside(reader, expected.context.free())?;
         if !reader.cursor.sees_mark(Punctuator::CloseParen) {
             return Err(reader.cursor.refuse());
         }
-        if want.least <= 1 && second_is_mark(&reader.cursor, Punctuator::Arrow) {
-            return self.group_arrow(reader, want.context, start, inside);
+        if expected.least <= ASSIGNMENT && peek_is_punctuator(&reader.cursor, Punctuator::Arrow) {
+            return self.group_arrow(reader, expected.context, start, inside);
         }
         if inside.parameters {
-            if want.least <= 1 {
+            if expected.least <= ASSIGNMENT {
                 reader.cursor.take();
             }
             return Err(reader.cursor.refuse());
@@ -104,7 +107,7 @@ impl<F: Fn(Global, &mut Reader<'_>, u32, Want) -> Result<Grown, Refusal>> Gramma
         context: Context,
         start: u32,
         inside: Inside,
-    ) -> Result<Grown, Refusal>
+    ) -> Result<ReadNode, Refusal>
         requires { Callable self.now.depth (F.pre self.now.node) }
     {
         let covers = self.all_of(inside)?;
@@ -122,11 +125,7 @@ impl<F: Fn(Global, &mut Reader<'_>, u32, Want) -> Result<Grown, Refusal>> Gramma
         let Some(first) = first else {
             return Ok(more);
         };
-        let nature = first.nature.with(more.nature);
-        let mut all = self.alone(first)?;
-        all.places.append(more.places)?;
-        all.nature = nature;
-        Ok(all)
+        Ok(self.alone(first)?.append(more)?)
     }
 
     // The parameters that the covers spell.
@@ -135,20 +134,19 @@ impl<F: Fn(Global, &mut Reader<'_>, u32, Want) -> Result<Grown, Refusal>> Gramma
         reader: &mut Reader<'_>,
         covers: Children,
     ) -> Result<Children, Refusal> {
-        if covers.nature.awaits {
+        if covers.summary.awaits {
             return Err(reader.cursor.refuse());
         }
-        let Children { places, nature } = covers;
-        match pattern_cover::parameters(self.alloc, places, &reader.marks, MOST_LEVELS) {
+        let Children { places, summary } = covers;
+        match pattern_cover::parameters(self.alloc, places, &reader.facts, MAX_LEVELS) {
             Ok(places) => Ok(Children {
                 places,
-                nature: Nature {
-                    loose: false,
-                    ..nature
+                summary: Summary {
+                    must_become_pattern: false,
+                    ..summary
                 },
             }),
-            Err(Unfit::NoMemory) => Err(Refusal::NoMemory),
-            Err(Unfit::NoPattern) => Err(reader.cursor.refuse()),
+            Err(error) => Err(refused_pattern(&mut reader.cursor, error)),
         }
     }
 
@@ -164,14 +162,17 @@ impl<F: Fn(Global, &mut Reader<'_>, u32, Want) -> Result<Grown, Refusal>> Gramma
             });
         }
         if reader.cursor.sees_mark(Punctuator::Ellipsis) {
-            let rest = self.node(reader, context.want(Category::BindingElement, 1))?;
+            let rest = self.node(
+                reader,
+                Expected::new(Category::BindingElement, ASSIGNMENT, context),
+            )?;
             return Ok(Inside {
                 first: Some(rest),
                 more: Children::new(self.alloc),
                 parameters: true,
             });
         }
-        let first = self.node(reader, context.want(Category::Cover, 1))?;
+        let first = self.node(reader, Expected::new(Category::Cover, ASSIGNMENT, context))?;
         self.inside_from(reader, context, first)
     }
 
@@ -179,7 +180,7 @@ impl<F: Fn(Global, &mut Reader<'_>, u32, Want) -> Result<Grown, Refusal>> Gramma
         &self,
         reader: &mut Reader<'_>,
         context: Context,
-        first: Grown,
+        first: ReadNode,
     ) -> Result<Inside, Refusal>
         requires { Callable self.now.depth (F.pre self.now.node) }
     {
@@ -194,16 +195,19 @@ impl<F: Fn(Global, &mut Reader<'_>, u32, Want) -> Result<Grown, Refusal>> Gramma
                 });
             }
             if reader.cursor.sees_mark(Punctuator::CloseParen) {
-                if !second_is_mark(&reader.cursor, Punctuator::Arrow) {
+                if !peek_is_punctuator(&reader.cursor, Punctuator::Arrow) {
                     return Err(reader.cursor.refuse());
                 }
                 parameters = true;
             } else if reader.cursor.sees_mark(Punctuator::Ellipsis) {
-                let rest = self.node(reader, context.want(Category::BindingElement, 1))?;
+                let rest = self.node(
+                    reader,
+                    Expected::new(Category::BindingElement, ASSIGNMENT, context),
+                )?;
                 more.push(rest)?;
                 parameters = true;
             } else {
-                let next = self.node(reader, context.want(Category::Cover, 1))?;
+                let next = self.node(reader, Expected::new(Category::Cover, ASSIGNMENT, context))?;
                 more.push(next)?;
             }
         }
@@ -216,7 +220,7 @@ impl<F: Fn(Global, &mut Reader<'_>, u32, Want) -> Result<Grown, Refusal>> Gramma
         reader: &mut Reader<'_>,
         opening: u32,
         inside: Inside,
-    ) -> Result<Grown, Refusal> {
+    ) -> Result<ReadNode, Refusal> {
         let Inside {
             first,
             more,
@@ -238,48 +242,50 @@ impl<F: Fn(Global, &mut Reader<'_>, u32, Want) -> Result<Grown, Refusal>> Gramma
         self.closed(reader, whole)
     }
 
-    fn closed(&self, reader: &mut Reader<'_>, whole: Grown) -> Result<Grown, Refusal> {
+    fn closed(&self, reader: &mut Reader<'_>, whole: ReadNode) -> Result<ReadNode, Refusal> {
         reader.cursor.take();
-        if whole.nature.loose {
+        if whole.summary.must_become_pattern {
             return Err(reader.cursor.refuse());
         }
-        if whole.nature.levels > self.depth {
+        if whole.summary.levels > self.depth {
             return Err(reader.cursor.too_deep());
         }
-        reader.marks.mark_grouped(&whole.tree)?;
-        let nature = whole.nature.enclosed();
-        Ok(Grown {
-            level: 19,
+        reader.facts.add_grouped(&whole.tree)?;
+        let summary = whole.summary.enclosed();
+        Ok(ReadNode {
+            level: PRIMARY,
             grouped: true,
-            nature,
+            summary,
             ..whole
         })
     }
 
     /// A call of the function `async`, or an async arrow.
-    pub fn async_call(&self, reader: &mut Reader<'_>, want: Want) -> Result<Grown, Refusal>
+    pub fn async_call(
+        &self,
+        reader: &mut Reader<'_>,
+        expected: Expected,
+    ) -> Result<ReadNode, Refusal>
         requires { Callable self.now.depth (F.pre self.now.node) }
     {
         let start = reader.cursor.start();
-        let name = self.node(reader, want.context.want(Category::Name, 0))?;
+        let name = self.node(reader, Expected::new(Category::Name, 0, expected.context))?;
         reader.cursor.take();
-        let list = List {
-            place: Place {
-                category: Category::Element,
-                least: 1,
-                scope: Scope::Free,
-            },
-            close: Punctuator::CloseParen,
-            holes: false,
+        let item = Place {
+            category: Category::Element,
+            least: ASSIGNMENT,
+            scope: Scope::Free,
         };
         let form = Form::Call(Link::Plain);
-        let covers = self.listed(reader, list, form, want.context)?;
+        let item = Expected::at(item, form.flow(), expected.context);
+        let covers = self.commas(reader, item, false)?;
+        expect_punctuator(&mut reader.cursor, Punctuator::CloseParen)?;
         let arrow = reader.cursor.sees_mark(Punctuator::Arrow) && !reader.cursor.line_end_before();
-        if want.least <= 1 && arrow {
+        if expected.least <= ASSIGNMENT && arrow {
             let parameters = self.parameters_of(reader, covers)?;
-            return self.arrow(reader, want.context, start, Flow::Async, parameters);
+            return self.arrow(reader, expected.context, start, Flow::Async, parameters);
         }
-        if covers.nature.loose {
+        if covers.summary.must_become_pattern {
             return Err(reader.cursor.refuse());
         }
         self.over_one_and_list(reader, form, start, name, covers)

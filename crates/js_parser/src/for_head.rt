@@ -2,13 +2,14 @@
 
 ghost use Rattle.js_parser.specs.Callable.{Callable};
 
+use crate::expected::Expected;
 use crate::grammar::Grammar;
-use crate::grown::{Children, Grown};
-use crate::look::{is_word, second_kind};
+use crate::lookahead::peek_kind;
+use crate::nodes::{Children, Parts, ReadNode};
 use crate::reader::Reader;
-use crate::tokens::{expect_mark, expect_word};
-use crate::want::{Context, Want};
-use js_forms::{Category, Form, Variable};
+use crate::spelled::behind_first;
+use crate::tokens::{expect_punctuator, expect_word};
+use js_forms::{Category, Context, Form, SEQUENCE, Variable, first_pieces};
 use js_lexer::{Cursor, Refusal};
 use js_tokens::{Punctuator, Word};
 use std::alloc::Global;
@@ -44,17 +45,21 @@ fn each_form(cursor: &Cursor<'_>, awaits: bool) -> Option<Form> {
 // Whether `async` comes next, and `of` behind it. A plain `for` begins with an arrow there or with
 // nothing, and one with `await` with the name (ECMA-262, clause 14.7.5).
 fn begins_async_of(cursor: &Cursor<'_>) -> bool {
-    cursor.sees_word(Word::Async) && is_word(second_kind(cursor), Word::Of)
+    cursor.sees_word(Word::Async) && peek_kind(cursor).is_word(Word::Of)
 }
 
-impl<F: Fn(Global, &mut Reader<'_>, u32, Want) -> Result<Grown, Refusal>> Grammar<F> {
-    pub fn for_statement(&self, reader: &mut Reader<'_>, context: Context) -> Result<Grown, Refusal>
+impl<F: Fn(Global, &mut Reader<'_>, u32, Expected) -> Result<ReadNode, Refusal>> Grammar<F> {
+    pub fn for_statement(
+        &self,
+        reader: &mut Reader<'_>,
+        context: Context,
+    ) -> Result<ReadNode, Refusal>
         requires { Callable self.now.depth (F.pre self.now.node) }
     {
         let start = reader.cursor.start();
         expect_word(&mut reader.cursor, Word::For)?;
         let awaits = context.takes_await() && reader.cursor.eat_word(Word::Await);
-        expect_mark(&mut reader.cursor, Punctuator::OpenParen)?;
+        expect_punctuator(&mut reader.cursor, Punctuator::OpenParen)?;
         if !awaits && reader.cursor.sees_mark(Punctuator::Semicolon) {
             return self.counting(reader, start, context, None);
         }
@@ -72,7 +77,7 @@ impl<F: Fn(Global, &mut Reader<'_>, u32, Want) -> Result<Grown, Refusal>> Gramma
         context: Context,
         awaits: bool,
         variable: Variable,
-    ) -> Result<Grown, Refusal>
+    ) -> Result<ReadNode, Refusal>
         requires { Callable self.now.depth (F.pre self.now.node) }
     {
         let form = Form::HeadVariables(variable);
@@ -82,7 +87,7 @@ impl<F: Fn(Global, &mut Reader<'_>, u32, Want) -> Result<Grown, Refusal>> Gramma
         let naming = reader.cursor.start();
         let id = self.node(
             reader,
-            Want {
+            Expected {
                 category: Category::Binding,
                 least: 0,
                 context: head,
@@ -92,7 +97,7 @@ impl<F: Fn(Global, &mut Reader<'_>, u32, Want) -> Result<Grown, Refusal>> Gramma
             let only = self.over_two(reader, Form::Declarator, naming, Some(id), None)?;
             let list = self.alone(only)?;
             let left = self.declaration(reader, form, opening, list)?;
-            return self.each(reader, each, start, context, left);
+            return self.filled(reader, each, start, context, left);
         }
         if awaits {
             return Err(reader.cursor.refuse());
@@ -110,7 +115,7 @@ impl<F: Fn(Global, &mut Reader<'_>, u32, Want) -> Result<Grown, Refusal>> Gramma
         form: Form,
         start: u32,
         found: Children,
-    ) -> Result<Grown, Refusal> {
+    ) -> Result<ReadNode, Refusal> {
         self.over_list(reader, form, start, found)
     }
 
@@ -121,7 +126,7 @@ impl<F: Fn(Global, &mut Reader<'_>, u32, Want) -> Result<Grown, Refusal>> Gramma
         start: u32,
         context: Context,
         awaits: bool,
-    ) -> Result<Grown, Refusal>
+    ) -> Result<ReadNode, Refusal>
         requires { Callable self.now.depth (F.pre self.now.node) }
     {
         let async_of = begins_async_of(&reader.cursor);
@@ -130,9 +135,9 @@ impl<F: Fn(Global, &mut Reader<'_>, u32, Want) -> Result<Grown, Refusal>> Gramma
         } else {
             Category::Cover
         };
-        let head = Want {
+        let head = Expected {
             category,
-            least: 0,
+            least: SEQUENCE,
             context: context.without_in(),
         };
         let first = self.node(reader, head)?;
@@ -141,16 +146,16 @@ impl<F: Fn(Global, &mut Reader<'_>, u32, Want) -> Result<Grown, Refusal>> Gramma
                 return Err(reader.cursor.refuse());
             }
             let left = self.each_target(reader, first)?;
-            return self.each(reader, each, start, context, left);
+            return self.filled(reader, each, start, context, left);
         }
-        if awaits || first.nature.loose {
+        if awaits || first.summary.must_become_pattern {
             return Err(reader.cursor.refuse());
         }
         self.counting(reader, start, context, Some(first))
     }
 
     // What the loop over something assigns to.
-    fn each_target(&self, reader: &mut Reader<'_>, first: Grown) -> Result<Grown, Refusal> {
+    fn each_target(&self, reader: &mut Reader<'_>, first: ReadNode) -> Result<ReadNode, Refusal> {
         if first.is_cover() {
             return self.pattern_of(reader, first, false);
         }
@@ -160,56 +165,21 @@ impl<F: Fn(Global, &mut Reader<'_>, u32, Want) -> Result<Grown, Refusal>> Gramma
         Ok(first)
     }
 
-    // The loop over something, from `in` or `of` on.
-    fn each(
-        &self,
-        reader: &mut Reader<'_>,
-        form: Form,
-        start: u32,
-        context: Context,
-        left: Grown,
-    ) -> Result<Grown, Refusal>
-        requires { Callable self.now.depth (F.pre self.now.node) }
-    {
-        reader.cursor.take();
-        let least = if form == Form::ForIn { 0 } else { 1 };
-        let right = self.node(reader, context.want(Category::Expression, least))?;
-        expect_mark(&mut reader.cursor, Punctuator::CloseParen)?;
-        let body = self.node(reader, context.want(Category::Statement, 0))?;
-        self.over_three(reader, form, start, left, right, body)
-    }
-
     // The loop with a test and an update, from its first `;` on.
+    #[inline(never)]
     fn counting(
         &self,
         reader: &mut Reader<'_>,
         start: u32,
         context: Context,
-        init: Option<Grown>,
-    ) -> Result<Grown, Refusal>
+        init: Option<ReadNode>,
+    ) -> Result<ReadNode, Refusal>
         requires { Callable self.now.depth (F.pre self.now.node) }
     {
-        expect_mark(&mut reader.cursor, Punctuator::Semicolon)?;
-        let test = self.head_part(reader, context, Punctuator::Semicolon)?;
-        let update = self.head_part(reader, context, Punctuator::CloseParen)?;
-        let body = self.node(reader, context.want(Category::Statement, 0))?;
-        self.over_four(reader, Form::For, start, init, test, update, body)
-    }
-
-    // An expression or none, and the token behind it.
-    fn head_part(
-        &self,
-        reader: &mut Reader<'_>,
-        context: Context,
-        close: Punctuator,
-    ) -> Result<Option<Grown>, Refusal>
-        requires { Callable self.now.depth (F.pre self.now.node) }
-    {
-        if reader.cursor.eat_mark(close) {
-            return Ok(None);
-        }
-        let part = self.node(reader, context.want(Category::Expression, 0))?;
-        expect_mark(&mut reader.cursor, close)?;
-        Ok(Some(part))
+        let mut read = Parts::new(self.alloc, Form::For)?;
+        read.push_maybe(init)?;
+        let left = behind_first(first_pieces(Form::For));
+        self.pieces(reader, left, Form::For, context, &mut read)?;
+        self.finish(reader, Form::For, start, read)
     }
 }

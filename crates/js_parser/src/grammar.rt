@@ -3,10 +3,14 @@
 
 ghost use Rattle.js_parser.specs.Callable.{Callable};
 
-use crate::grown::{Grown, Parts};
+use crate::expected::Expected;
+use crate::nodes::{Parts, ReadNode};
 use crate::reader::Reader;
-use crate::want::{Context, Want};
-use js_forms::{Category, Form, Part, Place, parts};
+use crate::spelled::{behind_first, chosen};
+use crate::tokens::{end_statement, expect, expect_ahead};
+use js_forms::{
+    Category, Choice, Context, Form, Piece, Place, Spelling, first_pieces, pieces, plain,
+};
 use js_lexer::Refusal;
 use std::alloc::Global;
 
@@ -18,11 +22,11 @@ pub struct Grammar<F> {
     pub node: F,
 }
 
-impl<F: Fn(Global, &mut Reader<'_>, u32, Want) -> Result<Grown, Refusal>> Grammar<F> {
-    pub fn node(&self, reader: &mut Reader<'_>, want: Want) -> Result<Grown, Refusal>
+impl<F: Fn(Global, &mut Reader<'_>, u32, Expected) -> Result<ReadNode, Refusal>> Grammar<F> {
+    pub fn node(&self, reader: &mut Reader<'_>, expected: Expected) -> Result<ReadNode, Refusal>
         requires { Callable self.now.depth (F.pre self.now.node) }
     {
-        (self.node)(self.alloc, reader, self.depth, want)
+        (self.node)(self.alloc, reader, self.depth, expected)
     }
 
     /// A child of the form.
@@ -32,84 +36,183 @@ impl<F: Fn(Global, &mut Reader<'_>, u32, Want) -> Result<Grown, Refusal>> Gramma
         place: Place,
         form: Form,
         context: Context,
-    ) -> Result<Grown, Refusal>
+    ) -> Result<ReadNode, Refusal>
         requires { Callable self.now.depth (F.pre self.now.node) }
     {
-        self.node(reader, context.at(place, form.flow()))
+        self.node(reader, Expected::at(place, form.flow(), context))
     }
 
-    /// The node of the form that began at the offset, once its parts are read.
+    /// The node of the form that began at the offset, once its pieces are read.
     pub fn finish(
         &self,
         reader: &mut Reader<'_>,
         form: Form,
         start: u32,
         read: Parts,
-    ) -> Result<Grown, Refusal> {
-        if read.nature.levels > self.depth {
+    ) -> Result<ReadNode, Refusal> {
+        if read.summary.levels > self.depth {
             return Err(reader.cursor.too_deep());
         }
         let from = reader.cursor.numbered(start)?;
         Ok(read.into_node(self.alloc, form, from)?)
     }
 
-    /// Adds this part of the form to what is read of it.
-    pub fn part(
+    // A piece that is a child, or stands for one.
+    fn single(
         &self,
         reader: &mut Reader<'_>,
-        part: Part,
+        piece: Piece,
         form: Form,
         context: Context,
         read: &mut Parts,
     ) -> Result<(), Refusal>
         requires { Callable self.now.depth (F.pre self.now.node) }
     {
-        match part {
-            Part::Mark(_)
-            | Part::Word(_)
-            | Part::Spelled(_)
-            | Part::Operator
-            | Part::Async
-            | Part::Star
-            | Part::OneOf(_, _)
-            | Part::SameLine
-            | Part::End
-            | Part::FieldEnd
-            | Part::MaybeSemicolon => { self.token(reader, part, form) }
-            Part::Name | Part::AnyName | Part::PrivateName | Part::Literal => {
-                self.scalars(reader, part, form, read)
+        match piece {
+            Piece::Child(place) => {
+                let child = self.child(reader, place, form, context)?;
+                Ok(read.push_child(child)?)
             }
-            Part::Child(_)
-            | Part::Right
-            | Part::Told(_, _)
-            | Part::ToldByWord(_, _)
-            | Part::Between(_, _, _)
-            | Part::Begun(_, _)
-            | Part::MaybeName
-            | Part::UnlessEnd(_)
-            | Part::Absent => self.single(reader, part, form, context, read),
-            _ => self.several(reader, part, form, context, read),
+            Piece::Into(place) => {
+                let child = self.child(reader, place, form, context)?;
+                Ok(read.begin_list(self.alone(child)?)?)
+            }
+            _ => Ok(read.push_absent()?),
         }
     }
 
-    /// The node of the form that began at the offset: its first child, if that is read, and what the
-    /// table tells.
+    // Adds what the piece spells to what is read of the form. Templates, and names that are spelled once
+    // for two children, have rules of their own.
+    fn plain_piece(
+        &self,
+        reader: &mut Reader<'_>,
+        piece: Piece,
+        form: Form,
+        context: Context,
+        read: &mut Parts,
+    ) -> Result<(), Refusal>
+        requires { Callable self.now.depth (F.pre self.now.node) }
+    {
+        match piece {
+            Piece::Nothing
+            | Piece::Scalar(_)
+            | Piece::Interpreter
+            | Piece::Blank(_)
+            | Piece::First(_) => Ok(()),
+            Piece::Token(test) => expect(&mut reader.cursor, test),
+            Piece::Ahead(test) => expect_ahead(&mut reader.cursor, test),
+            Piece::Text(lexeme) => self.text(reader, lexeme, read),
+            Piece::Child(_) | Piece::Into(_) | Piece::Hole => {
+                self.single(reader, piece, form, context, read)
+            }
+            Piece::NoList(_) | Piece::Row(_, _) | Piece::Commas(_, _, _) => {
+                self.several(reader, piece, form, context, read)
+            }
+            Piece::End(_, _) => end_statement(&mut reader.cursor),
+            Piece::Twins(_, _) | Piece::Template(_) | Piece::Choice(_) | Piece::Own(_) => {
+                Err(reader.cursor.refuse())
+            }
+        }
+    }
+
+    // The row of the choice that comes next.
+    fn choice(
+        &self,
+        reader: &mut Reader<'_>,
+        choice: Choice,
+        form: Form,
+        context: Context,
+        read: &mut Parts,
+    ) -> Result<(), Refusal>
+        requires { Callable self.now.depth (F.pre self.now.node) }
+    {
+        for piece in chosen(&reader.cursor, choice) {
+            self.plain_piece(reader, *piece, form, context, read)?;
+        }
+        Ok(())
+    }
+
+    /// Adds what the pieces of the form spell to what is read of it.
+    pub fn pieces(
+        &self,
+        reader: &mut Reader<'_>,
+        pieces: &[Piece],
+        form: Form,
+        context: Context,
+        read: &mut Parts,
+    ) -> Result<(), Refusal>
+        requires { Callable self.now.depth (F.pre self.now.node) }
+    {
+        for piece in pieces {
+            match plain(form, *piece) {
+                Piece::Choice(choice) => self.choice(reader, choice, form, context, read)?,
+                piece => self.plain_piece(reader, piece, form, context, read)?,
+            }
+        }
+        Ok(())
+    }
+
+    // The node of the form that began at the offset: its first child, if that is read, and the pieces.
     #[inline(never)]
+    fn whole_form(
+        &self,
+        reader: &mut Reader<'_>,
+        pieces: &[Piece],
+        form: Form,
+        start: u32,
+        context: Context,
+        first: Option<ReadNode>,
+    ) -> Result<ReadNode, Refusal>
+        requires { Callable self.now.depth (F.pre self.now.node) }
+    {
+        let mut read = Parts::begun(self.alloc, form, first)?;
+        self.pieces(reader, pieces, form, context, &mut read)?;
+        self.finish(reader, form, start, read)
+    }
+
+    /// The node of the form in this spelling that began at the offset with this child.
+    pub fn filled_as(
+        &self,
+        reader: &mut Reader<'_>,
+        form: Form,
+        spelling: Spelling,
+        start: u32,
+        context: Context,
+        first: ReadNode,
+    ) -> Result<ReadNode, Refusal>
+        requires { Callable self.now.depth (F.pre self.now.node) }
+    {
+        let left = behind_first(pieces(form, spelling));
+        self.whole_form(reader, left, form, start, context, Some(first))
+    }
+
+    /// The node of the form that began at the offset with this child.
     pub fn filled(
         &self,
         reader: &mut Reader<'_>,
         form: Form,
         start: u32,
         context: Context,
-        first: Option<Grown>,
-    ) -> Result<Grown, Refusal>
+        first: ReadNode,
+    ) -> Result<ReadNode, Refusal>
         requires { Callable self.now.depth (F.pre self.now.node) }
     {
-        let mut read = Parts::begun(self.alloc, form, first)?;
-        for part in parts(form) {
-            self.part(reader, *part, form, context, &mut read)?;
-        }
-        self.finish(reader, form, start, read)
+        let left = behind_first(first_pieces(form));
+        self.whole_form(reader, left, form, start, context, Some(first))
+    }
+
+    /// The node of a form in this spelling that begins with the next token.
+    pub fn begun_as(
+        &self,
+        reader: &mut Reader<'_>,
+        form: Form,
+        spelling: Spelling,
+        context: Context,
+    ) -> Result<ReadNode, Refusal>
+        requires { Callable self.now.depth (F.pre self.now.node) }
+    {
+        let start = reader.cursor.start();
+        self.whole_form(reader, pieces(form, spelling), form, start, context, None)
     }
 
     /// The node of a form that begins with the next token.
@@ -118,60 +221,68 @@ impl<F: Fn(Global, &mut Reader<'_>, u32, Want) -> Result<Grown, Refusal>> Gramma
         reader: &mut Reader<'_>,
         form: Form,
         context: Context,
-    ) -> Result<Grown, Refusal>
+    ) -> Result<ReadNode, Refusal>
         requires { Callable self.now.depth (F.pre self.now.node) }
     {
         let start = reader.cursor.start();
-        self.filled(reader, form, start, context, None)
+        self.whole_form(reader, first_pieces(form), form, start, context, None)
     }
 
-    /// The tree that the place wants.
-    pub fn whole(&self, reader: &mut Reader<'_>, want: Want) -> Result<Grown, Refusal>
+    /// The tree that is expected at the place.
+    pub fn whole(&self, reader: &mut Reader<'_>, expected: Expected) -> Result<ReadNode, Refusal>
         requires { Callable self.now.depth (F.pre self.now.node) }
     {
-        match want.category {
+        match expected.category {
             Category::Item | Category::ModuleItem | Category::Statement | Category::Declaration =>
-                self.statement(reader, want),
+                self.statement(reader, expected),
             Category::Expression
             | Category::Cover
             | Category::Argument
             | Category::Element
             | Category::Callee
-            | Category::Target => self.expression(reader, want),
-            Category::ObjectItem => self.object_item(reader, want.context),
-            Category::ClassItem => self.class_item(reader, want.context),
+            | Category::ArrowBody
+            | Category::Target => self.expression(reader, expected),
+            Category::ObjectItem => self.object_item(reader, expected.context),
+            Category::ClassItem => self.class_item(reader, expected.context),
             Category::Binding | Category::BindingElement | Category::BindingValue => {
-                self.binding(reader, want)
+                self.binding(reader, expected)
             }
-            Category::BindingProperty => self.binding_property(reader, want.context),
-            Category::ImportSpecifier => self.import_specifier(reader, want.context),
-            Category::ExportSpecifier => self.export_specifier(reader, want.context),
-            Category::Template => self.template(reader, want.context, true),
-            _ => self.simple(reader, want),
+            Category::BindingProperty => self.binding_property(reader, expected.context),
+            Category::ImportSpecifier => self.import_specifier(reader, expected.context),
+            Category::ExportSpecifier => self.export_specifier(reader, expected.context),
+            Category::ImportDefault => self.begun(reader, Form::ImportDefault, expected.context),
+            Category::ImportNamespace => self.begun(
+                reader,
+                Form::ImportNamespace,
+                expected.context,
+            ),
+            Category::DefaultDeclaration => self.default_declaration(reader, expected.context),
+            Category::Template => self.template(reader, expected.context, true),
+            _ => self.simple(reader, expected),
         }
     }
 
     // A tree whose category, with one token, tells its form.
-    fn simple(&self, reader: &mut Reader<'_>, want: Want) -> Result<Grown, Refusal>
+    fn simple(&self, reader: &mut Reader<'_>, expected: Expected) -> Result<ReadNode, Refusal>
         requires { Callable self.now.depth (F.pre self.now.node) }
     {
-        match crate::look::simple_form(&reader.cursor, want) {
-            Some(form) => self.begun(reader, form, want.context),
+        match crate::lookahead::simple_form(&reader.cursor, expected) {
+            Some(form) => self.begun(reader, form, expected.context),
             None => Err(reader.cursor.refuse()),
         }
     }
 }
 
-/// The tree that the place wants, with no more than `depth` nodes and parentheses nested in it.
+/// The tree that is expected at the place, with no more than `depth` nodes and parentheses nested in it.
 pub fn node(
     alloc: Global,
     reader: &mut Reader<'_>,
     depth: u32,
-    want: Want,
-) -> Result<Grown, Refusal> {
+    expected: Expected,
+) -> Result<ReadNode, Refusal> {
     if depth == 0 {
         return Err(reader.cursor.too_deep());
     }
     let depth = depth - 1;
-    Grammar { alloc, depth, node }.whole(reader, want)
+    Grammar { alloc, depth, node }.whole(reader, expected)
 }

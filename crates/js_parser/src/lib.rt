@@ -1,29 +1,29 @@
 //! Reads the statements and expressions of JavaScript by the table of forms.
 //!
-//! The reader chooses a form by looking ahead and then reads its parts in order. Expressions grow
-//! from their first operand on, by levels. What may be an expression or a pattern is read as an
-//! expression, and turned into a pattern where the token behind it says so.
+//! The reader chooses a form and its spelling by looking ahead, and then reads its pieces in order.
+//! Expressions grow from their first operand on, by levels. What may be an expression or a pattern is
+//! read as an expression, and converted into a pattern where the token behind it says so.
 #![tactic(auto)]
 
 mod arrow;
+mod builders;
+mod expected;
 mod expression;
 mod for_head;
 mod grammar;
-mod grown;
-mod keyed;
 mod lists;
-mod look;
-mod made;
+mod lookahead;
+mod members;
 mod module;
+mod nodes;
 mod operand;
 mod pattern;
+mod programs;
 mod reader;
-mod reading;
-mod single;
+mod spelled;
 mod statement;
 mod template;
 mod tokens;
-mod want;
 
+pub use programs::{MAX_LEVELS, Read, program};
 pub use reader::Quasi;
-pub use reading::{MOST_LEVELS, Read, program};

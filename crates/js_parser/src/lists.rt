@@ -1,88 +1,96 @@
-//! The parts of forms that are lists of children.
+//! The pieces of forms that are lists of children.
 
 ghost use Rattle.js_parser.specs.Callable.{Callable};
 
+use crate::expected::Expected;
 use crate::grammar::Grammar;
-use crate::grown::{Children, Grown, Parts};
+use crate::nodes::{Children, Parts, ReadNode};
 use crate::reader::Reader;
-use crate::tokens::expect_mark;
-use crate::want::{Context, Want};
-use js_forms::{Category, Form, List, Part, Variable};
+use js_forms::{ASSIGNMENT, Category, Context, Form, Piece, Variable};
 use js_lexer::{Cursor, Refusal};
-use js_tokens::{Punctuator, Word};
+use js_tokens::{Punctuator, TokenKind, Word};
 use std::alloc::Global;
 
 fn is_rest(form: Form) -> bool {
     matches!(form, Form::Rest | Form::NameRest)
 }
 
-// Whether the statements of a case end before the next token.
-fn ends_case(cursor: &Cursor<'_>) -> bool {
-    cursor.sees_word(Word::Case)
-        || cursor.sees_word(Word::Default)
+fn is_constant(form: Form) -> bool {
+    matches!(
+        form,
+        Form::Variables(Variable::Const) | Form::HeadVariables(Variable::Const)
+    )
+}
+
+// What surrounds the item behind one of this form: a directive stands behind directives alone.
+fn behind_item(context: Context, form: Form) -> Context {
+    context.with_directives(context.directives && matches!(form, Form::Directive))
+}
+
+// Whether a row of children ends before the next token, which is none with which a statement begins.
+fn ends_row(cursor: &Cursor<'_>, category: Category) -> bool {
+    if cursor.sees_mark(Punctuator::CloseBrace) || matches!(cursor.kind(), TokenKind::End) {
+        return true;
+    }
+    category == Category::Item && (cursor.sees_word(Word::Case) || cursor.sees_word(Word::Default))
+}
+
+fn ends_list(cursor: &Cursor<'_>) -> bool {
+    cursor.sees_mark(Punctuator::CloseParen)
+        || cursor.sees_mark(Punctuator::CloseBracket)
         || cursor.sees_mark(Punctuator::CloseBrace)
 }
 
-impl<F: Fn(Global, &mut Reader<'_>, u32, Want) -> Result<Grown, Refusal>> Grammar<F> {
+impl<F: Fn(Global, &mut Reader<'_>, u32, Expected) -> Result<ReadNode, Refusal>> Grammar<F> {
+    /// Adds the list that the piece spells.
     pub fn several(
         &self,
         reader: &mut Reader<'_>,
-        part: Part,
+        piece: Piece,
         form: Form,
         context: Context,
         read: &mut Parts,
     ) -> Result<(), Refusal>
         requires { Callable self.now.depth (F.pre self.now.node) }
     {
-        let children = match part {
-            Part::Only(place, close) => self.only(reader, context.at(place, form.flow()), close)?,
-            Part::List(list) => self.listed(reader, list, form, context)?,
-            Part::MaybeList(open, list) => {
-                if reader.cursor.eat_mark(open) {
-                    self.listed(reader, list, form, context)?
-                } else {
-                    Children::new(self.alloc)
+        let children = match piece {
+            Piece::Row(place, semicolons) => {
+                let expected = Expected::at(place, form.flow(), context);
+                self.row(reader, expected, semicolons)?
+            }
+            Piece::Commas(place, holes, _) => match place.category {
+                Category::Declarator => self.declarators(reader, form, context)?,
+                _ => {
+                    let expected = Expected::at(place, form.flow(), context);
+                    self.commas(reader, expected, holes)?
                 }
-            }
-            Part::Row(place, close) => self.row(reader, context.at(place, form.flow()), close)?,
-            Part::Directives(place, close) => {
-                self.directives(reader, context.at(place, form.flow()), close)?
-            }
-            Part::Members(place, close) => {
-                self.members(reader, context.at(place, form.flow()), close)?
-            }
-            Part::CaseRow(place) => self.case_row(reader, context.at(place, form.flow()))?,
-            Part::Cases(place) => self.cases(reader, context.at(place, form.flow()))?,
-            Part::Declarators => self.declarators(reader, form, context)?,
+            },
             _ => Children::new(self.alloc),
         };
         Ok(read.push_list(children)?)
     }
 
-    /// Children with commas between them, and the closing token.
-    pub fn listed(
+    /// Children with commas between them, up to a closing token or behind a rest.
+    pub fn commas(
         &self,
         reader: &mut Reader<'_>,
-        list: List,
-        form: Form,
-        context: Context,
+        expected: Expected,
+        holes: bool,
     ) -> Result<Children, Refusal>
         requires { Callable self.now.depth (F.pre self.now.node) }
     {
-        let want = context.at(list.place, form.flow());
         let mut found = Children::new(self.alloc);
         for _turn in 0..reader.cursor.turns() {
-            if reader.cursor.eat_mark(list.close) {
+            if ends_list(&reader.cursor) {
                 return Ok(found);
             }
-            if list.holes && reader.cursor.eat_mark(Punctuator::Comma) {
+            if holes && reader.cursor.eat_mark(Punctuator::Comma) {
                 found.push_hole()?;
             } else {
-                let item = self.node(reader, want)?;
+                let item = self.node(reader, expected)?;
                 let last = is_rest(item.form);
                 found.push(item)?;
                 if last || !reader.cursor.eat_mark(Punctuator::Comma) {
-                    expect_mark(&mut reader.cursor, list.close)?;
                     return Ok(found);
                 }
             }
@@ -90,126 +98,33 @@ impl<F: Fn(Global, &mut Reader<'_>, u32, Want) -> Result<Grown, Refusal>> Gramma
         Err(reader.cursor.refuse())
     }
 
-    // One child, behind which a comma may stand, and the closing token.
-    fn only(
-        &self,
-        reader: &mut Reader<'_>,
-        want: Want,
-        close: Punctuator,
-    ) -> Result<Children, Refusal>
-        requires { Callable self.now.depth (F.pre self.now.node) }
-    {
-        let child = self.node(reader, want)?;
-        reader.cursor.eat_mark(Punctuator::Comma);
-        expect_mark(&mut reader.cursor, close)?;
-        self.alone(child)
-    }
-
+    // Children in a row, of which those up to the first other may be directives, and one may be the
+    // default case.
     fn row(
         &self,
         reader: &mut Reader<'_>,
-        want: Want,
-        close: Punctuator,
+        mut expected: Expected,
+        semicolons: bool,
     ) -> Result<Children, Refusal>
-        requires { Callable self.now.depth (F.pre self.now.node) }
-    {
-        let mut found = Children::new(self.alloc);
-        for _turn in 0..reader.cursor.turns() {
-            if reader.cursor.eat_mark(close) {
-                return Ok(found);
-            }
-            let child = self.node(reader, want)?;
-            found.push(child)?;
-        }
-        Err(reader.cursor.refuse())
-    }
-
-    fn directives(
-        &self,
-        reader: &mut Reader<'_>,
-        want: Want,
-        close: Punctuator,
-    ) -> Result<Children, Refusal>
-        requires { Callable self.now.depth (F.pre self.now.node) }
-    {
-        let mut found = Children::new(self.alloc);
-        let mut directives = true;
-        for _turn in 0..reader.cursor.turns() {
-            if reader.cursor.eat_mark(close) {
-                return Ok(found);
-            }
-            let child = self.item(reader, want, directives)?;
-            directives = directives && matches!(child.form, Form::Directive);
-            found.push(child)?;
-        }
-        Err(reader.cursor.refuse())
-    }
-
-    /// A statement of a list, which may be a directive.
-    pub fn item(
-        &self,
-        reader: &mut Reader<'_>,
-        want: Want,
-        directives: bool,
-    ) -> Result<Grown, Refusal>
-        requires { Callable self.now.depth (F.pre self.now.node) }
-    {
-        let context = want.context.with_directives(directives);
-        self.node(reader, Want { context, ..want })
-    }
-
-    fn members(
-        &self,
-        reader: &mut Reader<'_>,
-        want: Want,
-        close: Punctuator,
-    ) -> Result<Children, Refusal>
-        requires { Callable self.now.depth (F.pre self.now.node) }
-    {
-        let mut found = Children::new(self.alloc);
-        for _turn in 0..reader.cursor.turns() {
-            if reader.cursor.eat_mark(close) {
-                return Ok(found);
-            }
-            if !reader.cursor.eat_mark(Punctuator::Semicolon) {
-                let child = self.node(reader, want)?;
-                found.push(child)?;
-            }
-        }
-        Err(reader.cursor.refuse())
-    }
-
-    fn case_row(&self, reader: &mut Reader<'_>, want: Want) -> Result<Children, Refusal>
-        requires { Callable self.now.depth (F.pre self.now.node) }
-    {
-        let mut found = Children::new(self.alloc);
-        for _turn in 0..reader.cursor.turns() {
-            if ends_case(&reader.cursor) {
-                return Ok(found);
-            }
-            let child = self.node(reader, want)?;
-            found.push(child)?;
-        }
-        Ok(found)
-    }
-
-    fn cases(&self, reader: &mut Reader<'_>, want: Want) -> Result<Children, Refusal>
         requires { Callable self.now.depth (F.pre self.now.node) }
     {
         let mut found = Children::new(self.alloc);
         let mut has_default = false;
         for _turn in 0..reader.cursor.turns() {
-            if reader.cursor.eat_mark(Punctuator::CloseBrace) {
+            if ends_row(&reader.cursor, expected.category) {
                 return Ok(found);
             }
             if has_default && reader.cursor.sees_word(Word::Default) {
                 return Err(reader.cursor.refuse());
             }
-            let child = self.node(reader, want)?;
-            has_default = has_default || matches!(child.form, Form::DefaultCase);
-            found.push(child)?;
+            if !(semicolons && reader.cursor.eat_mark(Punctuator::Semicolon)) {
+                let child = self.node(reader, expected)?;
+                has_default = has_default || matches!(child.form, Form::DefaultCase);
+                expected.context = behind_item(expected.context, child.form);
+                found.push(child)?;
+            }
         }
-        Err(reader.cursor.refuse())
+        Ok(found)
     }
 
     fn declarators(
@@ -221,7 +136,7 @@ impl<F: Fn(Global, &mut Reader<'_>, u32, Want) -> Result<Grown, Refusal>> Gramma
         requires { Callable self.now.depth (F.pre self.now.node) }
     {
         let start = reader.cursor.start();
-        let id = self.node(reader, context.want(Category::Binding, 0))?;
+        let id = self.node(reader, Expected::new(Category::Binding, 0, context))?;
         let first = self.declarator(reader, form, start, id, context)?;
         let found = self.alone(first)?;
         self.more_declarators(reader, form, found, context)
@@ -242,7 +157,7 @@ impl<F: Fn(Global, &mut Reader<'_>, u32, Want) -> Result<Grown, Refusal>> Gramma
                 return Ok(found);
             }
             let start = reader.cursor.start();
-            let id = self.node(reader, context.want(Category::Binding, 0))?;
+            let id = self.node(reader, Expected::new(Category::Binding, 0, context))?;
             let next = self.declarator(reader, form, start, id, context)?;
             found.push(next)?;
         }
@@ -255,20 +170,18 @@ impl<F: Fn(Global, &mut Reader<'_>, u32, Want) -> Result<Grown, Refusal>> Gramma
         reader: &mut Reader<'_>,
         form: Form,
         start: u32,
-        id: Grown,
+        id: ReadNode,
         context: Context,
-    ) -> Result<Grown, Refusal>
+    ) -> Result<ReadNode, Refusal>
         requires { Callable self.now.depth (F.pre self.now.node) }
     {
-        let constant = matches!(
-            form,
-            Form::Variables(Variable::Const) | Form::HeadVariables(Variable::Const)
-        );
-        let needs_value = constant || id.is_pattern();
         let value = if reader.cursor.eat_mark(Punctuator::Assign) {
-            Some(self.node(reader, context.want(Category::Expression, 1))?)
+            Some(self.node(
+                reader,
+                Expected::new(Category::Expression, ASSIGNMENT, context),
+            )?)
         } else {
-            if needs_value {
+            if id.is_pattern() || is_constant(form) {
                 return Err(reader.cursor.refuse());
             }
             None

@@ -2,14 +2,23 @@
 
 ghost use Rattle.js_parser.specs.Callable.{Callable};
 
+use crate::expected::Expected;
 use crate::grammar::Grammar;
-use crate::grown::Grown;
+use crate::nodes::ReadNode;
 use crate::reader::Reader;
-use crate::want::{Context, Want};
-use js_forms::{Category, Form};
+use js_forms::{Category, Context, Form};
 use js_lexer::{Cursor, Refusal};
 use js_tokens::Punctuator;
+use pattern_cover::PatternError;
 use std::alloc::Global;
+
+/// The refusal of what is no pattern, at the next token.
+pub fn refused_pattern(cursor: &mut Cursor<'_>, error: PatternError) -> Refusal {
+    match error {
+        PatternError::NoMemory => Refusal::NoMemory,
+        PatternError::NotPattern => cursor.refuse(),
+    }
+}
 
 // The form of a name or a pattern that is declared.
 fn binding_form(cursor: &Cursor<'_>) -> Form {
@@ -22,20 +31,20 @@ fn binding_form(cursor: &Cursor<'_>) -> Form {
     Form::Name
 }
 
-impl<F: Fn(Global, &mut Reader<'_>, u32, Want) -> Result<Grown, Refusal>> Grammar<F> {
+impl<F: Fn(Global, &mut Reader<'_>, u32, Expected) -> Result<ReadNode, Refusal>> Grammar<F> {
     /// A name or a pattern, with a default or behind `...` where the place takes that.
-    pub fn binding(&self, reader: &mut Reader<'_>, want: Want) -> Result<Grown, Refusal>
+    pub fn binding(&self, reader: &mut Reader<'_>, expected: Expected) -> Result<ReadNode, Refusal>
         requires { Callable self.now.depth (F.pre self.now.node) }
     {
         let start = reader.cursor.start();
-        let context = want.context;
-        let takes_rest = want.category == Category::BindingElement;
+        let context = expected.context;
+        let takes_rest = expected.category == Category::BindingElement;
         if takes_rest && reader.cursor.sees_mark(Punctuator::Ellipsis) {
             return self.begun(reader, Form::Rest, context);
         }
         let form = binding_form(&reader.cursor);
         let binding = self.begun(reader, form, context)?;
-        if want.category == Category::Binding {
+        if expected.category == Category::Binding {
             return Ok(binding);
         }
         self.with_default(reader, context, start, binding)
@@ -47,14 +56,14 @@ impl<F: Fn(Global, &mut Reader<'_>, u32, Want) -> Result<Grown, Refusal>> Gramma
         reader: &mut Reader<'_>,
         context: Context,
         start: u32,
-        binding: Grown,
-    ) -> Result<Grown, Refusal>
+        binding: ReadNode,
+    ) -> Result<ReadNode, Refusal>
         requires { Callable self.now.depth (F.pre self.now.node) }
     {
         if !reader.cursor.sees_mark(Punctuator::Assign) {
             return Ok(binding);
         }
-        self.filled(reader, Form::Default, start, context, Some(binding))
+        self.filled(reader, Form::Default, start, context, binding)
     }
 
     /// A property of an object pattern, or `...` and a name.
@@ -62,7 +71,7 @@ impl<F: Fn(Global, &mut Reader<'_>, u32, Want) -> Result<Grown, Refusal>> Gramma
         &self,
         reader: &mut Reader<'_>,
         context: Context,
-    ) -> Result<Grown, Refusal>
+    ) -> Result<ReadNode, Refusal>
         requires { Callable self.now.depth (F.pre self.now.node) }
     {
         if reader.cursor.sees_mark(Punctuator::Ellipsis) {
@@ -72,9 +81,9 @@ impl<F: Fn(Global, &mut Reader<'_>, u32, Want) -> Result<Grown, Refusal>> Gramma
         let (key, computed) = self.key(reader, context, Category::ObjectKey)?;
         if reader.cursor.sees_mark(Punctuator::Colon) {
             let form = Form::PatternProperty(computed);
-            return self.filled(reader, form, start, context, Some(key));
+            return self.filled(reader, form, start, context, key);
         }
-        let (key, name) = self.twins(reader, start, key)?;
+        let (key, name) = self.shorthand_pair(reader, start, key)?;
         let value = self.with_default(reader, context, start, name)?;
         let form = Form::PatternShorthand;
         self.over_two(reader, form, start, Some(key), Some(value))

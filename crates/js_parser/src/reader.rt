@@ -1,7 +1,7 @@
 //! The state of reading: the cursor, and what is remembered of expressions that may be patterns.
 
 use js_lexer::Cursor;
-use pattern_cover::Marks;
+use pattern_cover::CoverFacts;
 use sqlite_items::Items;
 use std::alloc::Global;
 
@@ -16,7 +16,7 @@ pub struct Quasi {
 #[derive(Drop)]
 pub struct Reader<'a> {
     pub cursor: Cursor<'a>,
-    pub marks: Marks,
+    pub facts: CoverFacts,
     pub quasis: Items<Quasi>,
 }
 
@@ -24,7 +24,7 @@ impl<'a> Reader<'a> {
     pub fn new(alloc: Global, cursor: Cursor<'a>) -> Reader<'a> {
         Reader {
             cursor,
-            marks: Marks::new(alloc),
+            facts: CoverFacts::new(alloc),
             quasis: Items::new(alloc),
         }
     }

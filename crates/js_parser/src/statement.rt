@@ -2,13 +2,13 @@
 
 ghost use Rattle.js_parser.specs.Callable.{Callable};
 
+use crate::expected::Expected;
 use crate::grammar::Grammar;
-use crate::grown::Grown;
-use crate::look::{begins_async_function, function_flow, is_mark, second_kind};
+use crate::lookahead::{begins_async_function, function_flow, peek_kind};
+use crate::nodes::ReadNode;
 use crate::reader::Reader;
 use crate::tokens::{end_statement, inside};
-use crate::want::{Context, Want};
-use js_forms::{Category, Form, Sort, Variable};
+use js_forms::{Category, Context, Form, SEQUENCE, Sort, Variable};
 use js_lexer::{Cursor, Refusal};
 use js_tokens::{Punctuator, TokenKind, Word, units};
 use std::alloc::Global;
@@ -32,32 +32,32 @@ fn takes_declarations(category: Category) -> bool {
     !matches!(category, Category::Statement)
 }
 
-fn declared(want: Want, form: Form) -> Start {
-    if takes_declarations(want.category) {
+fn declared(expected: Expected, form: Form) -> Start {
+    if takes_declarations(expected.category) {
         return Start::Form(form);
     }
     Start::Nothing
 }
 
-fn statement_start(cursor: &Cursor<'_>, want: Want) -> Start {
+fn statement_start(cursor: &Cursor<'_>, expected: Expected) -> Start {
     match cursor.kind() {
         TokenKind::Punctuator(mark) => match mark {
             Punctuator::OpenBrace => Start::Form(Form::Block),
             Punctuator::Semicolon => Start::Form(Form::Empty),
             _ => Start::Expression,
         },
-        TokenKind::Name(word) => word_start(cursor, want, word),
+        TokenKind::Name(word) => word_start(cursor, expected, word),
         _ => Start::Expression,
     }
 }
 
-fn word_start(cursor: &Cursor<'_>, want: Want, word: Word) -> Start {
+fn word_start(cursor: &Cursor<'_>, expected: Expected, word: Word) -> Start {
     match word {
         Word::Var => Start::Form(Form::Variables(Variable::Var)),
-        Word::Let => declared(want, Form::Variables(Variable::Let)),
-        Word::Const => declared(want, Form::Variables(Variable::Const)),
-        Word::Function => declared(want, Form::FunctionDeclaration(function_flow(cursor))),
-        Word::Class => declared(want, Form::ClassDeclaration),
+        Word::Let => declared(expected, Form::Variables(Variable::Let)),
+        Word::Const => declared(expected, Form::Variables(Variable::Const)),
+        Word::Function => declared(expected, Form::FunctionDeclaration(function_flow(cursor))),
+        Word::Class => declared(expected, Form::ClassDeclaration),
         Word::If => Start::Form(Form::If),
         Word::For => Start::For,
         Word::While => Start::Form(Form::While),
@@ -70,29 +70,29 @@ fn word_start(cursor: &Cursor<'_>, want: Want, word: Word) -> Start {
         Word::Switch => Start::Form(Form::Switch),
         Word::With => Start::Form(Form::With),
         Word::Debugger => Start::Form(Form::Debugger),
-        Word::Import => import_start(cursor, want),
-        Word::Export => match want.category {
+        Word::Import => import_start(cursor, expected),
+        Word::Export => match expected.category {
             Category::ModuleItem => Start::Export,
             _ => Start::Nothing,
         },
-        _ => name_start(cursor, want),
+        _ => name_start(cursor, expected),
     }
 }
 
-fn import_start(cursor: &Cursor<'_>, want: Want) -> Start {
-    let behind = second_kind(cursor);
-    if is_mark(behind, Punctuator::OpenParen) || is_mark(behind, Punctuator::Dot) {
+fn import_start(cursor: &Cursor<'_>, expected: Expected) -> Start {
+    let behind = peek_kind(cursor);
+    if behind.is_punctuator(Punctuator::OpenParen) || behind.is_punctuator(Punctuator::Dot) {
         return Start::Expression;
     }
-    match want.category {
+    match expected.category {
         Category::ModuleItem => Start::Import,
         _ => Start::NothingBehind,
     }
 }
 
-fn name_start(cursor: &Cursor<'_>, want: Want) -> Start {
+fn name_start(cursor: &Cursor<'_>, expected: Expected) -> Start {
     if begins_async_function(cursor) {
-        if takes_declarations(want.category) {
+        if takes_declarations(expected.category) {
             return Start::Form(Form::FunctionDeclaration(function_flow(cursor)));
         }
         return Start::NothingBehind;
@@ -112,24 +112,28 @@ fn is_declaration(start: Start) -> bool {
 }
 
 // Whether the expression may be the label of a statement: a name in no parentheses.
-fn is_label(grown: &Grown) -> bool {
-    !grown.grouped && grown.is_name()
+fn is_label(node: &ReadNode) -> bool {
+    !node.grouped && node.is_name()
 }
 
 // Whether the expression is a string in no parentheses.
-fn is_string(grown: &Grown) -> bool {
-    !grown.grouped && matches!(grown.form, Form::Literal(Sort::Quoted))
+fn is_string(node: &ReadNode) -> bool {
+    !node.grouped && matches!(node.form, Form::Literal(Sort::Quoted))
 }
 
-impl<F: Fn(Global, &mut Reader<'_>, u32, Want) -> Result<Grown, Refusal>> Grammar<F> {
-    pub fn statement(&self, reader: &mut Reader<'_>, want: Want) -> Result<Grown, Refusal>
+impl<F: Fn(Global, &mut Reader<'_>, u32, Expected) -> Result<ReadNode, Refusal>> Grammar<F> {
+    pub fn statement(
+        &self,
+        reader: &mut Reader<'_>,
+        expected: Expected,
+    ) -> Result<ReadNode, Refusal>
         requires { Callable self.now.depth (F.pre self.now.node) }
     {
-        let start = statement_start(&reader.cursor, want);
-        if want.category == Category::Declaration && !is_declaration(start) {
+        let start = statement_start(&reader.cursor, expected);
+        if expected.category == Category::Declaration && !is_declaration(start) {
             return Err(reader.cursor.refuse());
         }
-        let context = want.context;
+        let context = expected.context;
         match start {
             Start::Form(form) => self.begun(reader, form, context.free()),
             Start::For => self.for_statement(reader, context.free()),
@@ -144,34 +148,22 @@ impl<F: Fn(Global, &mut Reader<'_>, u32, Want) -> Result<Grown, Refusal>> Gramma
         }
     }
 
-    // The statement behind this label and its `:`.
-    fn labeled(
-        &self,
-        reader: &mut Reader<'_>,
-        context: Context,
-        start: u32,
-        label: Grown,
-    ) -> Result<Grown, Refusal>
-        requires { Callable self.now.depth (F.pre self.now.node) }
-    {
-        let body = self.node(reader, context.free().want(Category::Statement, 0))?;
-        let form = Form::Labeled;
-        self.over_two(reader, form, start, Some(label), Some(body))
-    }
-
     // A statement that is an expression, a directive, or one with a label.
     fn expression_statement(
         &self,
         reader: &mut Reader<'_>,
         context: Context,
-    ) -> Result<Grown, Refusal>
+    ) -> Result<ReadNode, Refusal>
         requires { Callable self.now.depth (F.pre self.now.node) }
     {
         let start = reader.cursor.start();
         let first = inside(reader.cursor.text());
-        let expression = self.node(reader, context.want(Category::Expression, 0))?;
-        if is_label(&expression) && reader.cursor.eat_mark(Punctuator::Colon) {
-            return self.labeled(reader, context, start, expression);
+        let expression = self.node(
+            reader,
+            Expected::new(Category::Expression, SEQUENCE, context),
+        )?;
+        if is_label(&expression) && reader.cursor.sees_mark(Punctuator::Colon) {
+            return self.filled(reader, Form::Labeled, start, context.free(), expression);
         }
         end_statement(&mut reader.cursor)?;
         if context.directives && is_string(&expression) {

@@ -2,11 +2,11 @@
 
 ghost use Rattle.js_parser.specs.Callable.{Callable};
 
+use crate::expected::Expected;
 use crate::grammar::Grammar;
-use crate::grown::{Children, Grown};
+use crate::nodes::{Children, ReadNode};
 use crate::reader::{Quasi, Reader};
-use crate::want::{Context, Want};
-use js_forms::{Category, Form};
+use js_forms::{Category, Context, Form, SEQUENCE};
 use js_lexer::Refusal;
 use js_tokens::{Goal, Punctuator, TemplatePart, TokenKind, cook_template, units};
 use std::alloc::Global;
@@ -27,14 +27,14 @@ fn characters(text: &[u8], last: bool) -> &[u8] {
     &text[1..text.len() - behind]
 }
 
-impl<F: Fn(Global, &mut Reader<'_>, u32, Want) -> Result<Grown, Refusal>> Grammar<F> {
+impl<F: Fn(Global, &mut Reader<'_>, u32, Expected) -> Result<ReadNode, Refusal>> Grammar<F> {
     /// A template. Behind a tag its escapes may be any.
     pub fn template(
         &self,
         reader: &mut Reader<'_>,
         context: Context,
         tagged: bool,
-    ) -> Result<Grown, Refusal>
+    ) -> Result<ReadNode, Refusal>
         requires { Callable self.now.depth (F.pre self.now.node) }
     {
         let start = reader.cursor.start();
@@ -46,7 +46,10 @@ impl<F: Fn(Global, &mut Reader<'_>, u32, Want) -> Result<Grown, Refusal>> Gramma
             if last {
                 return self.over_lists(reader, Form::Template, start, quasis, expressions);
             }
-            let hole = self.node(reader, context.free().want(Category::Expression, 0))?;
+            let hole = self.node(
+                reader,
+                Expected::new(Category::Expression, SEQUENCE, context.free()),
+            )?;
             expressions.push(hole)?;
             if !reader.cursor.sees_mark(Punctuator::CloseBrace) {
                 return Err(reader.cursor.refuse());
@@ -57,7 +60,7 @@ impl<F: Fn(Global, &mut Reader<'_>, u32, Want) -> Result<Grown, Refusal>> Gramma
     }
 
     // The characters up to the next hole or the end, and whether that is the end.
-    fn quasi(&self, reader: &mut Reader<'_>, tagged: bool) -> Result<(Grown, bool), Refusal> {
+    fn quasi(&self, reader: &mut Reader<'_>, tagged: bool) -> Result<(ReadNode, bool), Refusal> {
         let TokenKind::Template(part) = reader.cursor.kind() else {
             return Err(reader.cursor.refuse());
         };

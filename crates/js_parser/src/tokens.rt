@@ -1,22 +1,20 @@
-//! The parts of forms that are tokens, and those whose text is a scalar.
+//! The pieces of forms that are tokens, and those whose text is a scalar.
 
 ghost use Rattle.std.specs.Prelude.{◌≡◌, ◌≢◌, ◌-◌, ◌<◌, ◌≤◌, ℕ, length, slice_index, slice_range};
 
+use crate::expected::Expected;
 use crate::grammar::Grammar;
-use crate::grown::{Grown, Parts};
-use crate::look::ends_statement;
+use crate::lookahead::{begins_default_declaration, ends_statement, is_name};
+use crate::nodes::{Parts, ReadNode};
 use crate::reader::Reader;
-use crate::want::Want;
-use js_forms::{Form, Operator, Part, Sort};
+use cm_text::MAX_LENGTH;
+use js_forms::{Lexeme, Test};
 use js_lexer::{Cursor, Refusal};
 use js_tokens::{Punctuator, TokenKind, Word, cook_string, is_reserved, name_of, units};
 use std::alloc::Global;
 use tree_core::{Scalar, Units};
 
-/// The most bytes of a source.
-const MOST_BYTES: usize = 2_097_152;
-
-pub fn expect_mark(cursor: &mut Cursor<'_>, mark: Punctuator) -> Result<(), Refusal> {
+pub fn expect_punctuator(cursor: &mut Cursor<'_>, mark: Punctuator) -> Result<(), Refusal> {
     if cursor.eat_mark(mark) {
         return Ok(());
     }
@@ -30,48 +28,65 @@ pub fn expect_word(cursor: &mut Cursor<'_>, word: Word) -> Result<(), Refusal> {
     Err(cursor.refuse())
 }
 
-/// Whether the next token is this name, spelled without an escape.
-pub fn sees_spelled(cursor: &Cursor<'_>, spelling: &str) -> bool {
+// Whether the next token is this name, spelled without an escape.
+fn sees_spelled(cursor: &Cursor<'_>, spelling: &str) -> bool {
     match cursor.kind() {
         TokenKind::Name(_) => cursor.text() == spelling.as_bytes(),
         _ => false,
     }
 }
 
-fn expect_spelled(cursor: &mut Cursor<'_>, spelling: &str) -> Result<(), Refusal> {
-    if sees_spelled(cursor, spelling) {
-        cursor.take();
+// Whether the statement goes on with the next token.
+fn goes_on(cursor: &Cursor<'_>) -> bool {
+    !cursor.sees_mark(Punctuator::Semicolon) && !ends_statement(cursor)
+}
+
+/// Whether the next token passes the test. Where an expression statement and where a field's name
+/// begin is told before their forms are chosen.
+pub fn passes(cursor: &Cursor<'_>, test: Test) -> bool {
+    match test {
+        Test::Punctuator(mark) => cursor.sees_mark(mark),
+        Test::NotPunctuator(mark) => !cursor.sees_mark(mark),
+        Test::Word(word) => cursor.sees_word(word),
+        Test::NotWord(word) => !cursor.sees_word(word),
+        Test::OneOf(one, other) => cursor.sees_word(one) || cursor.sees_word(other),
+        Test::Spelled(word) => sees_spelled(cursor, word.spelling()),
+        Test::NotSpelled(word) => !sees_spelled(cursor, word.spelling()),
+        Test::FreeName => is_name(cursor.kind()),
+        Test::SameLine => !cursor.line_end_before(),
+        Test::GoesOn => goes_on(cursor),
+        Test::End => matches!(cursor.kind(), TokenKind::End),
+        Test::NoDeclaration => !begins_default_declaration(cursor),
+        Test::Pattern => {
+            cursor.sees_mark(Punctuator::OpenBracket) || cursor.sees_mark(Punctuator::OpenBrace)
+        }
+        Test::Expression | Test::FieldName(_) => true,
+        Test::Never => false,
+    }
+}
+
+/// That the next token passes the test.
+pub fn expect_ahead(cursor: &mut Cursor<'_>, test: Test) -> Result<(), Refusal> {
+    if passes(cursor, test) {
         return Ok(());
     }
     Err(cursor.refuse())
 }
 
-fn expect_operator(cursor: &mut Cursor<'_>, operator: Option<Operator>) -> Result<(), Refusal> {
-    match operator {
-        Some(Operator::Mark(mark)) => expect_mark(cursor, mark),
-        Some(Operator::Word(word)) => expect_word(cursor, word),
-        None => Ok(()),
+/// That the next token passes the test; then passes the token. Behind the end of the text comes
+/// nothing.
+pub fn expect(cursor: &mut Cursor<'_>, test: Test) -> Result<(), Refusal> {
+    expect_ahead(cursor, test)?;
+    match test {
+        Test::End => {}
+        _ => cursor.take(),
     }
+    Ok(())
 }
 
 /// Passes the end of a statement: a semicolon, or where it may be missing.
 pub fn end_statement(cursor: &mut Cursor<'_>) -> Result<(), Refusal> {
     if cursor.eat_mark(Punctuator::Semicolon) || ends_statement(cursor) {
-        return Ok(());
-    }
-    Err(cursor.refuse())
-}
-
-/// That no line end comes next.
-pub fn same_line(cursor: &mut Cursor<'_>) -> Result<(), Refusal> {
-    if cursor.line_end_before() {
-        return Err(cursor.refuse());
-    }
-    Ok(())
-}
-
-fn one_of(cursor: &mut Cursor<'_>, a: Word, b: Word) -> Result<(), Refusal> {
-    if cursor.sees_word(a) || cursor.sees_word(b) {
         return Ok(());
     }
     Err(cursor.refuse())
@@ -166,7 +181,7 @@ fn private_name(alloc: Global, cursor: &mut Cursor<'_>) -> Result<Units, Refusal
 
 fn quoted(alloc: Global, cursor: &mut Cursor<'_>) -> Result<Units, Refusal> {
     let raw = inside(cursor.text());
-    if raw.len() > MOST_BYTES {
+    if raw.len() > MAX_LENGTH {
         return Err(cursor.refuse());
     }
     match cook_string(alloc, raw) {
@@ -176,81 +191,54 @@ fn quoted(alloc: Global, cursor: &mut Cursor<'_>) -> Result<Units, Refusal> {
     }
 }
 
-impl<F: Fn(Global, &mut Reader<'_>, u32, Want) -> Result<Grown, Refusal>> Grammar<F> {
-    /// A part that is a token, or says something of the next.
-    pub fn token(&self, reader: &mut Reader<'_>, part: Part, form: Form) -> Result<(), Refusal> {
-        let cursor = &mut reader.cursor;
-        match part {
-            Part::Mark(mark) => expect_mark(cursor, mark),
-            Part::Word(word) => expect_word(cursor, word),
-            Part::Spelled(word) => expect_spelled(cursor, word.spelling()),
-            Part::Operator => expect_operator(cursor, form.operator()),
-            Part::Async => {
-                if form.flow().is_async() {
-                    return expect_word(cursor, Word::Async);
-                }
-                Ok(())
-            }
-            Part::Star => {
-                if form.flow().is_generator() {
-                    return expect_mark(cursor, Punctuator::Star);
-                }
-                Ok(())
-            }
-            Part::OneOf(a, b) => one_of(cursor, a, b),
-            Part::SameLine => same_line(cursor),
-            Part::End | Part::FieldEnd => end_statement(cursor),
-            _ => {
-                cursor.eat_mark(Punctuator::Semicolon);
-                Ok(())
-            }
-        }
-    }
-
-    /// A part whose text is a scalar.
-    pub fn scalars(
+impl<F: Fn(Global, &mut Reader<'_>, u32, Expected) -> Result<ReadNode, Refusal>> Grammar<F> {
+    /// Adds the token's text to the scalars, and passes the token.
+    pub fn text(
         &self,
         reader: &mut Reader<'_>,
-        part: Part,
-        form: Form,
+        lexeme: Lexeme,
         read: &mut Parts,
     ) -> Result<(), Refusal> {
         let alloc = self.alloc;
         let cursor = &mut reader.cursor;
-        match part {
-            Part::Name => Ok(read.push_text(alloc, free_name(alloc, cursor)?)?),
-            Part::AnyName => Ok(read.push_text(alloc, name(alloc, cursor)?)?),
-            Part::PrivateName => Ok(read.push_text(alloc, private_name(alloc, cursor)?)?),
-            _ => self.literal(reader, form, read),
+        match lexeme {
+            Lexeme::FreeName => Ok(read.push_text(alloc, free_name(alloc, cursor)?)?),
+            Lexeme::AnyName => Ok(read.push_text(alloc, name(alloc, cursor)?)?),
+            Lexeme::PrivateName => Ok(read.push_text(alloc, private_name(alloc, cursor)?)?),
+            Lexeme::Quoted | Lexeme::Number | Lexeme::BigInt | Lexeme::Regex | Lexeme::Directive =>
+                self.literal(reader, lexeme, read),
         }
     }
 
-    // What a literal spells.
+    // What a literal spells: its value or its spelling, and its flags.
     fn literal(
         &self,
         reader: &mut Reader<'_>,
-        form: Form,
+        lexeme: Lexeme,
         read: &mut Parts,
     ) -> Result<(), Refusal> {
         let alloc = self.alloc;
         let cursor = &mut reader.cursor;
-        match form {
-            Form::Literal(Sort::Quoted) => {
+        match lexeme {
+            Lexeme::Quoted => {
                 let value = quoted(alloc, cursor)?;
                 read.push_text(alloc, value)?;
                 read.push_scalar(alloc, Scalar::Null)?;
             }
-            Form::Literal(Sort::Number) | Form::Literal(Sort::BigInt) => {
-                let raw = units(alloc, cursor.text(), false)?;
-                read.push_text(alloc, raw)?;
-                read.push_scalar(alloc, Scalar::Null)?;
-            }
-            Form::Literal(Sort::Regex) => {
+            Lexeme::Regex => {
                 let (pattern, flags) = regex(alloc, cursor.text())?;
                 read.push_text(alloc, pattern)?;
                 read.push_text(alloc, flags)?;
             }
-            _ => {}
+            Lexeme::Directive => {
+                let raw = units(alloc, inside(cursor.text()), false)?;
+                read.push_text(alloc, raw)?;
+            }
+            _ => {
+                let raw = units(alloc, cursor.text(), false)?;
+                read.push_text(alloc, raw)?;
+                read.push_scalar(alloc, Scalar::Null)?;
+            }
         }
         cursor.take();
         Ok(())

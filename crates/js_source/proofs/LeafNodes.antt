@@ -1,6 +1,7 @@
--- Leaves that are spelled stay so when more stretches come behind, and with one more slot or place.
+-- Leaves that are spelled stay so when more spans come behind, and with one more slot or place.
 use Rattle.std.proofs.Common.{◌≡◌, ◌≤◌, ◌+◌, ℕ, List, [], ◌∷◌, ◌++◌, Some, None, map, length, sym, ◌∙◌, ap, subst, arith}
 use Rattle.std.proofs.lemmas.List.{map-append}
+use Rattle.type_defs.specs.declared.kind.Kind.{Kind}
 use Rattle.tree_core.specs.declared.scalars.Scalar.{Scalar}
 use Rattle.tree_core.specs.declared.span.Span.{Span}
 use Rattle.tree_core.specs.declared.tree.Place.{Place}
@@ -40,7 +41,7 @@ mutual
       (leaves_kept s a b g n t et (omega arith) h.0, places_spelled_kept s a b g parent (child + 1) (n + count t) more em (omega arith) h.1)
 
 -- a node that was given the next number, and its slots
-pub node_spelled : (s : List ℕ) (t : Syntax) (kind : ℕ) (scalars : List Scalar) (slots : Slots) (notes : Notes) (a b : List Span) (x : Span) (n : ℕ) → t ≡ node kind scalars slots notes (Some n)
+pub node_spelled : (s : List ℕ) (t : Syntax) (kind : Kind) (scalars : List Scalar) (slots : Slots) (notes : Notes) (a b : List Span) (x : Span) (n : ℕ) → t ≡ node kind scalars slots notes (Some n)
     → n ≡ length a → Grows (a ++ x ∷ []) b → LeafSpelled s x t → SlotsSpelled s b slots → LeavesSpelled s b t
 node_spelled s t kind scalars slots notes a b x n is e g l more =
     let w : span_of b (Some n) ≡ x = ap (λ z. span_of b (Some z)) e ∙ last_kept a b x g in

@@ -1,8 +1,9 @@
--- Stretches that nest go on to nest when more of them come behind.
+-- Spans that nest go on to nest when more of them come behind.
 use Rattle.std.proofs.Common.{◌≡◌, ◌≤◌, ◌<◌, ◌+◌, ℕ, zero, suc, List, [], ◌∷◌, ◌++◌, Some, length, length-append, append-nil, drop, slice_get, refl, sym, ◌∙◌, ap, subst, arith}
 use Rattle.std.proofs.lemmas.List.{append_assoc}
 use Rattle.std.proofs.Math.Seq.{drop-append_seam}
 use Rattle.std.specs.Prelude.{unwrap_or}
+use Rattle.type_defs.specs.declared.kind.Kind.{Kind}
 use Rattle.tree_core.specs.declared.scalars.Scalar.{Scalar}
 use Rattle.tree_core.specs.declared.span.Span.{Span}
 use Rattle.tree_core.specs.Notes.{Notes}
@@ -32,7 +33,7 @@ got_last : (a : List Span) (x : Span) → slice_get (a ++ x ∷ []) (length a) �
 got_last [] x = refl
 got_last (y ∷ a) x = got_last a x
 
--- the stretch that was put last is found at its number, also when more come behind
+-- the span that was put last is found at its number, also when more come behind
 pub last_kept : (a b : List Span) (x : Span) → Grows (a ++ x ∷ []) b → span_of b (Some (length a)) ≡ x
 last_kept a b x g =
     let n : length (a ++ x ∷ []) ≡ length a + 1 = grind (arith, length-append) in
@@ -64,7 +65,7 @@ mutual
       (nested_kept a b g outer n t et (omega arith) h.0, places_kept a b g outer parent (child + 1) (n + count t) more em (omega arith) h.1)
 
 -- a node that was given the next number, and its slots
-pub node_nested : (t : Syntax) (kind : ℕ) (scalars : List Scalar) (slots : Slots) (notes : Notes) (a b : List Span) (outer x : Span) (n : ℕ) → t ≡ node kind scalars slots notes (Some n)
+pub node_nested : (t : Syntax) (kind : Kind) (scalars : List Scalar) (slots : Slots) (notes : Notes) (a b : List Span) (outer x : Span) (n : ℕ) → t ≡ node kind scalars slots notes (Some n)
     → n ≡ length a → Grows (a ++ x ∷ []) b → Lies outer x → SlotsNested b x slots → Nested b outer t
 node_nested t kind scalars slots notes a b outer x n is e g l s =
     let w : span_of b (Some n) ≡ x = ap (λ z. span_of b (Some z)) e ∙ last_kept a b x g in

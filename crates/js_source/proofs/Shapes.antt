@@ -5,8 +5,7 @@ use Rattle.std.proofs.Math.Seq.{take-length}
 use Rattle.tree_core.specs.declared.tree.Place.{Place}
 use Rattle.tree_core.specs.declared.tree.Slot.{Slot}
 use Rattle.tree_core.specs.View.{Row, Spot, slots_of, places_of, slot_view, place_view}
-use Rattle.type_defs.specs.declared.field_defs.FieldDef.{FieldDef}
-use Rattle.type_defs.specs.Fields.{row_of}
+use Rattle.type_defs.specs.Fields.{FieldDef, row_of}
 use Rattle.js_source.specs.Shaped.{lists_of, HasPlaces, SlotsInShape, PlacesInShape}
 
 -- which of the slots are lists
@@ -26,12 +25,12 @@ map-rows [] = refl
 map-rows (f ∷ fields) = ap (λ z. (row_of f).list ∷ z) (map-rows fields)
 
 pub alike_more : (slots : List Slot) (fields : List FieldDef) (i : ℕ) (s : Slot) (d : FieldDef) → i < length slots → i < length fields
-    → s ≡ get_or slots i s → (get_or fields i d).list ≡ (slot_view s).0
+    → s ≡ get_or slots i s → (get_or fields i d).1.list ≡ (slot_view s).0
     → take i (slots_listed slots) ≡ take i (fields_listed fields) → take (i + 1) (slots_listed slots) ≡ take (i + 1) (fields_listed fields)
 alike_more slots fields i s d hs hf es e h =
     let none = (slot_view s).0 in
     let this : get_or (slots_listed slots) i none ≡ (slot_view s).0 = get_or-map (λ s. (slot_view s).0) slots i s none hs ∙ ap (λ z. (slot_view z).0) (sym es) in
-    let that : get_or (fields_listed fields) i none ≡ (get_or fields i d).list = get_or-map (λ f. (row_of f).list) fields i d none hf in
+    let that : get_or (fields_listed fields) i none ≡ (get_or fields i d).1.list = get_or-map (λ f. (row_of f).list) fields i d none hf in
     let ls : i < length (slots_listed slots) = subst (λ n. i < n) (sym (length-map slots (λ s. (slot_view s).0))) hs in
     let lf : i < length (fields_listed fields) = subst (λ n. i < n) (sym (length-map fields (λ f. (row_of f).list))) hf in
     take_more_same (slots_listed slots) (fields_listed fields) i none ls lf h (this ∙ (sym e ∙ sym that))

@@ -6,8 +6,8 @@ use Rattle.tree_core.specs.Syntax.{Syntax, node, Slots, no_slots, slot, Places, 
 use Rattle.leaf_spellings.specs.Leaves.{LeafSpelled}
 
 abbrev mutual
-  -- by these stretches, which stand at their nodes' numbers, the text spells each leaf of the tree at
-  -- its stretch
+  -- by these spans, which stand at their nodes' numbers, the text spells each leaf of the tree at
+  -- its span
   pub LeavesSpelled : List ℕ → List Span → Syntax → Type 0
   LeavesSpelled s spans (node kind scalars slots notes from) = LeafSpelled s (span_of spans from) (node kind scalars slots notes from) × SlotsSpelled s spans slots
 

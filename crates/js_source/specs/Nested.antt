@@ -1,10 +1,10 @@
--- Stretches within stretches: a node stands within the node around it.
+-- Spans within spans: a node stands within the node around it.
 use Rattle.std.specs.Prelude.{◌≡◌, ℕ, ◌≤◌, List, ◌++◌, length, drop}
 use Rattle.tree_core.specs.declared.span.Span.{Span}
 use Rattle.tree_core.specs.Numbers.{span_of}
 use Rattle.tree_core.specs.Syntax.{Syntax, node, Slots, no_slots, slot, Places, no_places, hole, place}
 
--- the second stretch lies within the first
+-- the second span lies within the first
 abbrev pub Lies : Span → Span → Type 0
 Lies outer span = (outer.start ≤ span.start) × ((span.start ≤ span.end) × (span.end ≤ outer.end))
 
@@ -17,7 +17,7 @@ abbrev pub Grows : List Span → List Span → Type 0
 Grows before after = after ≡ before ++ drop (length before) after
 
 abbrev mutual
-  -- by these stretches, which stand at their nodes' numbers, the first node lies within the outer one,
+  -- by these spans, which stand at their nodes' numbers, the first node lies within the outer one,
   -- and each other one within the node around it
   pub Nested : List Span → Span → Syntax → Type 0
   Nested spans outer (node kind scalars slots notes from) = Lies outer (span_of spans from) × SlotsNested spans (span_of spans from) slots

@@ -1,20 +1,18 @@
 -- Trees in shape: each node has the fields of its kind.
-use Rattle.std.specs.Prelude.{◌≡◌, ℕ, Bool, true, false, List, [], ◌∷◌, IsSome, length}
+use Rattle.std.specs.Prelude.{◌≡◌, Bool, true, false, List, [], ◌∷◌, length}
 use Rattle.tree_core.specs.declared.scalars.Scalar.{Scalar}
 use Rattle.tree_core.specs.Numbers.{places_length}
 use Rattle.tree_core.specs.Syntax.{Syntax, node, Slots, no_slots, slot, Places, no_places, hole, place}
 use Rattle.type_defs.specs.Fields.{scalar_count, lists_at}
-use Rattle.type_defs.specs.Kinds.{kind_at}
+use Rattle.type_defs.specs.declared.kind.Kind.{Kind}
 
 -- which of the slots are lists
 abbrev pub lists_of : Slots → List Bool
 lists_of no_slots = []
 lists_of (slot list _ more) = list ∷ lists_of more
 
--- the number is that of a kind, and there are as many scalars as the kind has, and as many slots, of
--- which the same ones are lists
-pub record HasFields (kind : ℕ) (scalars : List Scalar) (slots : Slots) : Type 0 where
-  pub known : IsSome (kind_at kind)
+-- there are as many scalars as the kind has, and as many slots, of which the same ones are lists
+pub record HasFields (kind : Kind) (scalars : List Scalar) (slots : Slots) : Type 0 where
   pub as_many : length scalars ≡ scalar_count kind
   pub alike : lists_of slots ≡ lists_at kind
 

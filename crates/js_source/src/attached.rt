@@ -1,6 +1,6 @@
 //! Which comments of a source go to which node.
 
-use crate::seating::Laid;
+use crate::comment_places::Spanned;
 use js_tokens::{byte_at, units};
 use sqlite_items::Items;
 use std::alloc::{AllocError, Global};
@@ -92,7 +92,7 @@ impl Attached {
     }
 }
 
-// The comment with this stretch of the text.
+// The comment with this span of the text.
 fn comment(alloc: Global, text: &[u8], span: Span) -> Result<Comment, AllocError> {
     let start = (span.start as usize).min(text.len());
     let block = byte_at(text, start.saturating_add(1)) == b'*';
@@ -117,7 +117,7 @@ fn comments(alloc: Global, text: &[u8], spans: &[Span], run: Run) -> Result<Comm
 /// The comments of the node with this number.
 pub fn notes_of(
     alloc: Global,
-    laid: Laid<'_>,
+    spanned: Spanned<'_>,
     attached: &Attached,
     node: Option<u32>,
 ) -> Result<Notes, AllocError> {
@@ -134,7 +134,7 @@ pub fn notes_of(
         let Some(run) = next else {
             break;
         };
-        let all = comments(alloc, laid.source.bytes(), laid.comments, run)?;
+        let all = comments(alloc, spanned.source.bytes(), spanned.comments, run)?;
         match run.side {
             Side::Lead => lead = all,
             Side::Trail => trail = all,

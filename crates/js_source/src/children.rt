@@ -4,7 +4,7 @@
 //! A name that is spelled once for two children has a mirror, which stands nowhere.
 
 use std::slice;
-use tree_core::{Place, Scalar, Slot, Tree};
+use tree_core::{Place, Slot, Tree};
 use type_defs::Kind;
 
 fn places(slot: &Slot) -> &[Place] {
@@ -23,26 +23,20 @@ pub fn place_count(tree: &Tree) -> usize {
     count
 }
 
-fn is_true(tree: &Tree, scalar: usize) -> bool {
-    match tree.scalars.get(scalar) {
-        Some(Scalar::Truth(truth)) => *truth,
-        _ => false,
-    }
-}
-
 // The number of the mirror's place.
 fn mirror(tree: &Tree) -> Option<usize> {
-    match Kind::from_number(tree.kind) {
-        Some(Kind::Property) if is_true(tree, 2) => Some(0),
-        Some(Kind::AssignmentProperty) | Some(Kind::ImportSpecifier) if is_true(tree, 0) => Some(0),
-        Some(Kind::ExportSpecifier) if is_true(tree, 0) => Some(1),
+    match tree.kind {
+        Kind::Property if tree.scalars.is_truth_at(2, true) => Some(0),
+        Kind::AssignmentProperty | Kind::ImportSpecifier if tree.scalars.is_truth_at(0, true) =>
+            Some(0),
+        Kind::ExportSpecifier if tree.scalars.is_truth_at(0, true) => Some(1),
         _ => None,
     }
 }
 
 // The number of the place that comes at this turn in the text.
 fn number_at(tree: &Tree, turn: usize) -> usize {
-    if tree.kind != Kind::TemplateLiteral.number() {
+    if !matches!(tree.kind, Kind::TemplateLiteral) {
         return turn;
     }
     if turn % 2 == 0 {

@@ -2,23 +2,23 @@
 //! the numbers of its nodes and names of its places.
 //!
 //! The reader below gives a tree whose nodes have numbers as they were read. Here each comment is
-//! seated beside a node, and then one walk numbers the nodes in preorder, names the places, gives the
+//! attached to a node, and then one walk numbers the nodes in preorder, names the places, gives the
 //! nodes their comments, and sees that each node has the fields of its kind and that the source spells
-//! each leaf, a node without slots, at its stretch.
+//! each leaf, a node without slots, at its span.
 #![tactic(auto)]
 
 mod attached;
 mod children;
+mod comment_places;
 mod front;
 mod lines;
 mod numbering;
 mod quasis;
-mod seating;
 mod shape;
 #[cfg(test)]
 mod tests;
-mod waiting;
 mod whole;
+mod work_stack;
 
 pub use js_lexer::Refusal;
 pub use whole::parse;

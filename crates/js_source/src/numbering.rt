@@ -16,9 +16,9 @@ ghost use Rattle.tree_core.specs.Numbers.{count, numbered, numbered_places, numb
 ghost use Rattle.tree_core.specs.View.{place_view, places_of, slot_view, slots_of, syntax};
 
 use crate::attached::{Attached, notes_of};
-use crate::seating::Laid;
+use crate::comment_places::Spanned;
 use crate::shape::has_fields;
-use crate::waiting::Waiting;
+use crate::work_stack::WorkStack;
 use js_lexer::{Refusal, SyntaxFault, SyntaxKind};
 use leaf_spellings::is_spelled;
 use sqlite_items::Items;
@@ -26,20 +26,20 @@ use std::alloc::Global;
 use tree_core::{Place, PlaceName, Slot, Span, Spans, Tree};
 
 /// The most nodes that are numbered.
-const MOST_NODES: usize = 4_194_304;
+const MAX_NODES: usize = 4_194_304;
 
 /// The most places, the one of the tree itself counted.
-const MOST_PLACES: u32 = 67_108_864;
+const MAX_PLACES: u32 = 67_108_864;
 
 /// What is given of the source.
 #[derive(Clone, Copy)]
 pub struct Given<'a> {
     pub alloc: Global,
-    pub laid: Laid<'a>,
+    pub spanned: Spanned<'a>,
     pub attached: &'a Attached,
 }
 
-/// What is numbered so far: the stretches of the nodes by number, and how many places.
+/// What is numbered so far: the spans of the nodes by number, and how many places.
 #[derive(Drop)]
 pub struct Numbering {
     len: u32,
@@ -57,7 +57,7 @@ struct Parent {
     span: Span,
 }
 
-// The part of the stretch that lies within the outer one. The reader gives none that does not.
+// The part of the span that lies within the outer one. The reader gives none that does not.
 fn within(span: Span, outer: Span) -> Span
     requires { outer.start ≤ outer.end }
     ensures { Lies outer result }
@@ -69,7 +69,7 @@ fn within(span: Span, outer: Span) -> Span
     }
 }
 
-// The refusal at the start of the stretch.
+// The refusal at the start of the span.
 fn refusal_at(span: Span, kind: SyntaxKind) -> Refusal
     requires { span.start ≤ span.end }
     ensures { RefusedWithin span.end result }
@@ -93,7 +93,7 @@ fn next_child(parent: Parent, child: u32) -> Result<u32, Refusal>
 }
 
 impl Numbering {
-    // The next number, for a node with this stretch.
+    // The next number, for a node with this span.
     fn give(&mut self, span: Span) -> Result<u32, Refusal>
         requires { SpanFits self.old.len span }
         ensures number { IfOk result (λ number. number ≡ length self.old.spans) }
@@ -103,7 +103,7 @@ impl Numbering {
         ensures refused { IfErr result (RefusedWithin span.end) }
     {
         let number = self.spans.len();
-        if number >= MOST_NODES {
+        if number >= MAX_NODES {
             return Err(refusal_at(span, SyntaxKind::Unexpected));
         }
         self.spans.push(span)?;
@@ -118,7 +118,7 @@ impl Numbering {
         ensures len { self.new.len ≡ self.old.len }
         ensures refused { IfErr result (RefusedWithin parent.span.end) }
     {
-        if self.places >= MOST_PLACES - 1 {
+        if self.places >= MAX_PLACES - 1 {
             return Err(refusal_at(parent.span, SyntaxKind::Unexpected));
         }
         self.places += 1;
@@ -132,13 +132,13 @@ impl Numbering {
 fn number_node(
     given: &Given<'_>,
     numbers: &mut Numbering,
-    waiting: &mut Waiting,
+    pending: &mut WorkStack,
     depth: u32,
     outer: Span,
     tree: &mut Tree,
 ) -> Result<(), Refusal>
     requires outer { SpanFits numbers.old.len outer }
-    requires whole { numbers.old.len ≡ length given.now.laid.source.now }
+    requires whole { numbers.old.len ≡ length given.now.spanned.source.now }
     ensures numbers { IfOk result (λ _. syntax tree.new ≡ numbered (length numbers.old.spans) (syntax tree.new)) }
     ensures nodes { IfOk result (λ _. length numbers.new.spans ≡ length numbers.old.spans + count (syntax tree.new)) }
     ensures grows { IfOk result (λ _. Grows numbers.old.spans numbers.new.spans) }
@@ -146,21 +146,21 @@ fn number_node(
     ensures places { IfOk result (λ _. numbers.new.places ≡ numbers.old.places + place_count (syntax tree.new)) }
     ensures low { IfOk result (λ _. height (syntax tree.new) ≤ depth) }
     ensures shaped { IfOk result (λ _. InShape (syntax tree.new)) }
-    ensures leaves { IfOk result (λ _. LeavesSpelled given.now.laid.source.now numbers.new.spans (syntax tree.new)) }
+    ensures leaves { IfOk result (λ _. LeavesSpelled given.now.spanned.source.now numbers.new.spans (syntax tree.new)) }
     ensures len { numbers.new.len ≡ numbers.old.len }
     ensures refused { IfErr result (RefusedWithin outer.end) }
 {
     let from = tree.from;
-    let span = within(given.laid.span_of(from), outer);
+    let span = within(given.spanned.span_of(from), outer);
     if depth == 0 {
         return Err(refusal_at(span, SyntaxKind::Nesting));
     }
     let number = numbers.give(span)?;
     let parent = Parent { number, span };
-    tree.notes = notes_of(given.alloc, given.laid, given.attached, from)?;
+    tree.notes = notes_of(given.alloc, given.spanned, given.attached, from)?;
     tree.from = Some(parent.number);
-    number_slots(given, numbers, waiting, depth - 1, parent, &mut tree.slots)?;
-    if !has_fields(tree) || !is_spelled(given.alloc, given.laid.source, span, tree)? {
+    number_slots(given, numbers, pending, depth - 1, parent, &mut tree.slots)?;
+    if !has_fields(tree) || !is_spelled(given.alloc, given.spanned.source, span, tree)? {
         return Err(refusal_at(span, SyntaxKind::Unexpected));
     }
     Ok(())
@@ -172,13 +172,13 @@ fn number_node(
 fn number_slots(
     given: &Given<'_>,
     numbers: &mut Numbering,
-    waiting: &mut Waiting,
+    pending: &mut WorkStack,
     depth: u32,
     parent: Parent,
     slots: &mut Items<Slot>,
 ) -> Result<(), Refusal>
     requires outer { SpanFits numbers.old.len parent.span }
-    requires whole { numbers.old.len ≡ length given.now.laid.source.now }
+    requires whole { numbers.old.len ≡ length given.now.spanned.source.now }
     ensures numbers { IfOk result (λ _. slots_of (map slot_view slots.new) ≡ numbered_slots parent.number 0 (length numbers.old.spans) (slots_of (map slot_view slots.new))) }
     ensures nodes { IfOk result (λ _. length numbers.new.spans ≡ length numbers.old.spans + slots_count (slots_of (map slot_view slots.new))) }
     ensures grows { IfOk result (λ _. Grows numbers.old.spans numbers.new.spans) }
@@ -186,19 +186,19 @@ fn number_slots(
     ensures places { IfOk result (λ _. numbers.new.places ≡ numbers.old.places + slots_places (slots_of (map slot_view slots.new))) }
     ensures low { IfOk result (λ _. slots_height (slots_of (map slot_view slots.new)) ≤ depth) }
     ensures shaped { IfOk result (λ _. SlotsInShape (slots_of (map slot_view slots.new))) }
-    ensures leaves { IfOk result (λ _. SlotsSpelled given.now.laid.source.now numbers.new.spans (slots_of (map slot_view slots.new))) }
+    ensures leaves { IfOk result (λ _. SlotsSpelled given.now.spanned.source.now numbers.new.spans (slots_of (map slot_view slots.new))) }
     ensures len { numbers.new.len ≡ numbers.old.len }
     ensures refused { IfErr result (RefusedWithin parent.span.end) }
 {
     let count = slots.len();
-    waiting.take_slots(slots)?;
+    pending.take_slots(slots)?;
     let mut child = 0;
     for _turn in 0..count {
-        let Some(slot) = waiting.next_slot() else {
+        let Some(slot) = pending.next_slot() else {
             return Ok(());
         };
         let mut slot = slot;
-        child = number_slot(given, numbers, waiting, depth, parent, child, &mut slot)?;
+        child = number_slot(given, numbers, pending, depth, parent, child, &mut slot)?;
         slots.push(slot)?;
     }
     Ok(())
@@ -209,14 +209,14 @@ fn number_slots(
 fn number_slot(
     given: &Given<'_>,
     numbers: &mut Numbering,
-    waiting: &mut Waiting,
+    pending: &mut WorkStack,
     depth: u32,
     parent: Parent,
     child: u32,
     slot: &mut Slot,
 ) -> Result<u32, Refusal>
     requires outer { SpanFits numbers.old.len parent.span }
-    requires whole { numbers.old.len ≡ length given.now.laid.source.now }
+    requires whole { numbers.old.len ≡ length given.now.spanned.source.now }
     ensures child { IfOk result (λ next. next ≡ child + places_length (slot_view slot.new).1) }
     ensures numbers { IfOk result (λ _. (slot_view slot.new).1 ≡ numbered_places parent.number child (length numbers.old.spans) (slot_view slot.new).1) }
     ensures nodes { IfOk result (λ _. length numbers.new.spans ≡ length numbers.old.spans + places_count (slot_view slot.new).1) }
@@ -226,17 +226,17 @@ fn number_slot(
     ensures low { IfOk result (λ _. places_height (slot_view slot.new).1 ≤ depth) }
     ensures single { IfOk result (λ _. HasPlaces (slot_view slot.new).0 (slot_view slot.new).1) }
     ensures shaped { IfOk result (λ _. PlacesInShape (slot_view slot.new).1) }
-    ensures leaves { IfOk result (λ _. PlacesSpelled given.now.laid.source.now numbers.new.spans (slot_view slot.new).1) }
+    ensures leaves { IfOk result (λ _. PlacesSpelled given.now.spanned.source.now numbers.new.spans (slot_view slot.new).1) }
     ensures len { numbers.new.len ≡ numbers.old.len }
     ensures refused { IfErr result (RefusedWithin parent.span.end) }
 {
     match slot {
         Slot::Single(place) => {
-            number_place(given, numbers, waiting, depth, parent, child, place)?;
+            number_place(given, numbers, pending, depth, parent, child, place)?;
             next_child(parent, child)
         }
         Slot::List(places) => {
-            number_places(given, numbers, waiting, depth, parent, child, places)
+            number_places(given, numbers, pending, depth, parent, child, places)
         }
     }
 }
@@ -247,14 +247,14 @@ fn number_slot(
 fn number_places(
     given: &Given<'_>,
     numbers: &mut Numbering,
-    waiting: &mut Waiting,
+    pending: &mut WorkStack,
     depth: u32,
     parent: Parent,
     first: u32,
     places: &mut Items<Place>,
 ) -> Result<u32, Refusal>
     requires outer { SpanFits numbers.old.len parent.span }
-    requires whole { numbers.old.len ≡ length given.now.laid.source.now }
+    requires whole { numbers.old.len ≡ length given.now.spanned.source.now }
     ensures child { IfOk result (λ next. next ≡ first + places_length (places_of (map place_view places.new))) }
     ensures numbers { IfOk result (λ _. places_of (map place_view places.new) ≡ numbered_places parent.number first (length numbers.old.spans) (places_of (map place_view places.new))) }
     ensures nodes { IfOk result (λ _. length numbers.new.spans ≡ length numbers.old.spans + places_count (places_of (map place_view places.new))) }
@@ -263,19 +263,19 @@ fn number_places(
     ensures places { IfOk result (λ _. numbers.new.places ≡ numbers.old.places + all_places (places_of (map place_view places.new))) }
     ensures low { IfOk result (λ _. places_height (places_of (map place_view places.new)) ≤ depth) }
     ensures shaped { IfOk result (λ _. PlacesInShape (places_of (map place_view places.new))) }
-    ensures leaves { IfOk result (λ _. PlacesSpelled given.now.laid.source.now numbers.new.spans (places_of (map place_view places.new))) }
+    ensures leaves { IfOk result (λ _. PlacesSpelled given.now.spanned.source.now numbers.new.spans (places_of (map place_view places.new))) }
     ensures len { numbers.new.len ≡ numbers.old.len }
     ensures refused { IfErr result (RefusedWithin parent.span.end) }
 {
     let count = places.len();
-    waiting.take_places(places)?;
+    pending.take_places(places)?;
     let mut child = first;
     for _turn in 0..count {
-        let Some(place) = waiting.next_place() else {
+        let Some(place) = pending.next_place() else {
             return Ok(child);
         };
         let mut place = place;
-        number_place(given, numbers, waiting, depth, parent, child, &mut place)?;
+        number_place(given, numbers, pending, depth, parent, child, &mut place)?;
         places.push(place)?;
         child = next_child(parent, child)?;
     }
@@ -287,14 +287,14 @@ fn number_places(
 fn number_place(
     given: &Given<'_>,
     numbers: &mut Numbering,
-    waiting: &mut Waiting,
+    pending: &mut WorkStack,
     depth: u32,
     parent: Parent,
     child: u32,
     place: &mut Place,
 ) -> Result<(), Refusal>
     requires outer { SpanFits numbers.old.len parent.span }
-    requires whole { numbers.old.len ≡ length given.now.laid.source.now }
+    requires whole { numbers.old.len ≡ length given.now.spanned.source.now }
     ensures numbers { IfOk result (λ _. places_of (place_view place.new ∷ []) ≡ numbered_places parent.number child (length numbers.old.spans) (places_of (place_view place.new ∷ []))) }
     ensures nodes { IfOk result (λ _. length numbers.new.spans ≡ length numbers.old.spans + places_count (places_of (place_view place.new ∷ []))) }
     ensures grows { IfOk result (λ _. Grows numbers.old.spans numbers.new.spans) }
@@ -302,7 +302,7 @@ fn number_place(
     ensures places { IfOk result (λ _. numbers.new.places ≡ numbers.old.places + all_places (places_of (place_view place.new ∷ []))) }
     ensures low { IfOk result (λ _. places_height (places_of (place_view place.new ∷ [])) ≤ depth) }
     ensures shaped { IfOk result (λ _. PlacesInShape (places_of (place_view place.new ∷ []))) }
-    ensures leaves { IfOk result (λ _. PlacesSpelled given.now.laid.source.now numbers.new.spans (places_of (place_view place.new ∷ []))) }
+    ensures leaves { IfOk result (λ _. PlacesSpelled given.now.spanned.source.now numbers.new.spans (places_of (place_view place.new ∷ []))) }
     ensures len { numbers.new.len ≡ numbers.old.len }
     ensures refused { IfErr result (RefusedWithin parent.span.end) }
 {
@@ -313,32 +313,32 @@ fn number_place(
     });
     match &mut place.node {
         None => Ok(()),
-        Some(tree) => number_node(given, numbers, waiting, depth, parent.span, tree),
+        Some(tree) => number_node(given, numbers, pending, depth, parent.span, tree),
     }
 }
 
-/// The tree with its nodes numbered, and their stretches by their new numbers.
+/// The tree with its nodes numbered, and their spans by their new numbers.
 pub fn number(given: &Given<'_>, tree: Tree, levels: u32) -> Result<(Tree, Spans), Refusal>
-    ensures fit { IfOk result (λ r. SpansFit (length given.now.laid.source.now) r.1) }
+    ensures fit { IfOk result (λ r. SpansFit (length given.now.spanned.source.now) r.1) }
     ensures numbers { IfOk result (λ r. syntax r.0 ≡ numbered 0 (syntax r.0)) }
-    ensures nested { IfOk result (λ r. Nested r.1 (whole (length given.now.laid.source.now)) (syntax r.0)) }
+    ensures nested { IfOk result (λ r. Nested r.1 (whole (length given.now.spanned.source.now)) (syntax r.0)) }
     ensures nodes { IfOk result (λ r. length r.1 ≡ count (syntax r.0)) }
     ensures few { IfOk result (λ r. count (syntax r.0) ≤ 4194304) }
     ensures places { IfOk result (λ r. 1 + place_count (syntax r.0) ≤ 67108864) }
     ensures low { IfOk result (λ r. height (syntax r.0) ≤ levels) }
     ensures shaped { IfOk result (λ r. InShape (syntax r.0)) }
-    ensures leaves { IfOk result (λ r. LeavesSpelled given.now.laid.source.now r.1 (syntax r.0)) }
-    ensures refused { IfErr result (RefusedWithin (length given.now.laid.source.now)) }
+    ensures leaves { IfOk result (λ r. LeavesSpelled given.now.spanned.source.now r.1 (syntax r.0)) }
+    ensures refused { IfErr result (RefusedWithin (length given.now.spanned.source.now)) }
 {
-    let len = given.laid.source.bytes().len() as u32;
+    let len = given.spanned.source.bytes().len() as u32;
     let mut numbers = Numbering {
         len,
         spans: Items::new(given.alloc),
         places: 0,
     };
-    let mut waiting = Waiting::new(given.alloc);
+    let mut pending = WorkStack::new(given.alloc);
     let mut tree = tree;
     let outer = Span { start: 0, end: len };
-    number_node(given, &mut numbers, &mut waiting, levels, outer, &mut tree)?;
+    number_node(given, &mut numbers, &mut pending, levels, outer, &mut tree)?;
     Ok((tree, numbers.spans))
 }

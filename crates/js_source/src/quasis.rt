@@ -1,9 +1,9 @@
-//! The stretches of nodes that the reader gives wider or narrower than they are.
+//! The spans of nodes that the reader gives wider or narrower than they are.
 
 use js_parser::Quasi;
 use tree_core::{Span, Spans};
 
-// The stretch without the marks around it: a backquote or a brace before it, and behind it a
+// The span without the marks around it: a backquote or a brace before it, and behind it a
 // backquote or `${`.
 fn without_marks(span: Span, last: bool) -> Span {
     let behind = if last { 1 } else { 2 };
@@ -14,7 +14,7 @@ fn without_marks(span: Span, last: bool) -> Span {
     }
 }
 
-/// The stretches by number, where those of the characters of templates have no marks around them.
+/// The spans by number, where those of the characters of templates have no marks around them.
 pub fn narrowed(mut spans: Spans, quasis: &[Quasi]) -> Spans {
     for quasi in quasis {
         let at = quasi.number as usize;
@@ -26,7 +26,7 @@ pub fn narrowed(mut spans: Spans, quasis: &[Quasi]) -> Spans {
     spans
 }
 
-/// The stretches by number, where that of the program is the whole text.
+/// The spans by number, where that of the program is the whole text.
 pub fn widened(mut spans: Spans, program: Option<u32>, len: u32) -> Spans {
     if let Some(number) = program {
         let at = number as usize;

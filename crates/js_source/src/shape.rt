@@ -1,18 +1,12 @@
 //! Whether a node has the fields of its kind, by the table of kinds.
 
-ghost use Rattle.std.specs.Prelude.{◌≡◌, true, count_by, map};
+ghost use Rattle.std.specs.Prelude.{◌≡◌, true, map};
 ghost use Rattle.js_source.specs.Shaped.{HasFields, lists_of};
 ghost use Rattle.tree_core.specs.View.{slot_view, slots_of};
-ghost use Rattle.type_defs.specs.Fields.{is_scalar, row_of};
+ghost use Rattle.type_defs.specs.Fields.{row_of};
 
 use tree_core::{Slot, Tree};
-use type_defs::{FieldDef, Kind};
-
-fn count_scalars(fields: &[FieldDef]) -> usize
-    ensures { result ≡ count_by is_scalar (map row_of fields.now) }
-{
-    fields.iter().filter(|field| !field.slot).count()
-}
+use type_defs::{FieldDef, scalar_count, slots};
 
 fn is_list(slot: &Slot) -> bool
     ensures { result ≡ (slot_view slot.now).0 }
@@ -31,7 +25,7 @@ fn are_lists_alike(fields: &[FieldDef], slots: &[Slot]) -> bool
         return false;
     }
     for at in 0..fields.len() {
-        if fields[at].list != is_list(&slots[at]) {
+        if fields[at].1.list != is_list(&slots[at]) {
             return false;
         }
     }
@@ -42,13 +36,8 @@ fn are_lists_alike(fields: &[FieldDef], slots: &[Slot]) -> bool
 pub fn has_fields(tree: &Tree) -> bool
     ensures { result ≡ true → HasFields tree.now.kind tree.now.scalars (slots_of (map slot_view tree.now.slots)) }
 {
-    let Some(kind) = Kind::from_number(tree.kind) else {
-        return false;
-    };
-    let fields = kind.fields();
-    let scalars = count_scalars(fields);
-    if tree.scalars.len() != scalars {
+    if tree.scalars.len() != scalar_count(tree.kind) {
         return false;
     }
-    are_lists_alike(&fields[scalars..], tree.slots.as_slice())
+    are_lists_alike(slots(tree.kind), tree.slots.as_slice())
 }

@@ -1,4 +1,4 @@
-//! Sources with the stretches of their nodes in preorder, and with the comments beside a node.
+//! Sources with the spans of their nodes in preorder, and with the comments beside a node.
 
 use crate::parse;
 use cm_text::Source;
@@ -21,8 +21,8 @@ fn parsed(alloc: Global, text: &str) -> Result<Option<Parsed>, AllocError> {
     }
 }
 
-// The stretches, as `0-3 1-2 `.
-fn stretches(alloc: Global, spans: &[Span]) -> Result<String, AllocError> {
+// The spans, as `0-3 1-2 `.
+fn spelled_spans(alloc: Global, spans: &[Span]) -> Result<String, AllocError> {
     let mut all = String::new(alloc);
     for span in spans {
         let (start, end) = (span.start, span.end);
@@ -43,7 +43,7 @@ fn interpreter_len(tree: &Tree) -> Option<usize> {
 #[test]
 fn numbers_in_preorder(rt: HostRuntime) -> Result<(), Fail> {
     let alloc = rt.alloc();
-    // a text, the length of its interpreter, and the stretches
+    // a text, the length of its interpreter, and the spans
     let cases = [
         ("", None, "0-0 "),
         ("a * b;\nc", None, "0-8 0-6 0-5 0-1 4-5 7-8 7-8 "),
@@ -56,7 +56,7 @@ fn numbers_in_preorder(rt: HostRuntime) -> Result<(), Fail> {
     for (text, interpreter, want) in cases {
         match parsed(alloc, text)? {
             Some(found) => {
-                let spans = stretches(alloc, found.spans.as_slice())?;
+                let spans = spelled_spans(alloc, found.spans.as_slice())?;
                 assert_eq!(rt; spans.as_str(), want, "{text}");
                 assert_eq!(rt; interpreter_len(&found.tree), interpreter, "{text}");
             }
@@ -102,7 +102,7 @@ fn notes(
 }
 
 #[test]
-fn seats_comments(rt: HostRuntime) -> Result<(), Fail> {
+fn attaches_comments(rt: HostRuntime) -> Result<(), Fail> {
     let call = "// a\nf(/* b */ x, // c\ny); // d\n";
     let template = "`a${/* a */ b}c${d /* b */}`";
     let branch = "if (a) /* a */ b; else c // b\n/* c */\n// d\nd";

@@ -1,5 +1,8 @@
 //! Tokens.
 
+ghost use Rattle.js_tokens.specs.Tokens.{is_punctuator, is_word};
+ghost use Rattle.std.specs.Prelude.{◌≡◌};
+
 use crate::punctuator::Punctuator;
 use crate::word::Word;
 
@@ -47,6 +50,42 @@ pub enum TokenKind {
     Template(TemplatePart),
     /// `#` and an identifier name.
     Private,
+}
+
+impl TokenKind {
+    /// Whether the token is this punctuator.
+    pub fn is_punctuator(self, punctuator: Punctuator) -> bool
+        ensures { result ≡ is_punctuator self punctuator }
+    {
+        match self {
+            TokenKind::Punctuator(found) => found.number() == punctuator.number(),
+            TokenKind::End
+            | TokenKind::Name(_)
+            | TokenKind::Number
+            | TokenKind::BigInt
+            | TokenKind::Quoted
+            | TokenKind::Regex
+            | TokenKind::Template(_)
+            | TokenKind::Private => false,
+        }
+    }
+
+    /// Whether the token is this word, spelled without an escape.
+    pub fn is_word(self, word: Word) -> bool
+        ensures { result ≡ is_word self word }
+    {
+        match self {
+            TokenKind::Name(found) => found.number() == word.number(),
+            TokenKind::End
+            | TokenKind::Punctuator(_)
+            | TokenKind::Number
+            | TokenKind::BigInt
+            | TokenKind::Quoted
+            | TokenKind::Regex
+            | TokenKind::Template(_)
+            | TokenKind::Private => false,
+        }
+    }
 }
 
 /// A token from the byte `start` up to the byte `end`. `broken_before` says that a line end stands

@@ -1,9 +1,10 @@
 //! The words that the grammar knows by name.
 
-ghost use Rattle.js_tokens.specs.Words.{word_spelling, word_number, reserved, words_on, first_spelled, word_of};
-ghost use Rattle.std.specs.Prelude.{◌≡◌, bytes_eq};
+ghost use Rattle.js_tokens.specs.Words.{words, word_spellings, reservations, are_in_order, word_spelling, word_number, reserved, words_on, first_spelled, word_of};
+ghost use Rattle.std.specs.Prelude.{◌≡◌, IsTrue, length, map, bytes_eq};
 
 use crate::readable::Text;
+use tree_core::are_bytes;
 
 /// A word of the grammar: the reserved words of ECMA-262, clause 12.7.2, with `let`, and then those
 /// that have a meaning at some places alone.
@@ -58,179 +59,88 @@ pub enum Word {
     Static,
 }
 
-/// All words but `Plain`, in the order of their numbers, which begin at 1.
-pub const WORDS: [Word; 45] = [
-    Word::Await,
-    Word::Break,
-    Word::Case,
-    Word::Catch,
-    Word::Class,
-    Word::Const,
-    Word::Continue,
-    Word::Debugger,
-    Word::Default,
-    Word::Delete,
-    Word::Do,
-    Word::Else,
-    Word::Enum,
-    Word::Export,
-    Word::Extends,
-    Word::False,
-    Word::Finally,
-    Word::For,
-    Word::Function,
-    Word::If,
-    Word::Import,
-    Word::In,
-    Word::Instanceof,
-    Word::New,
-    Word::Null,
-    Word::Return,
-    Word::Super,
-    Word::Switch,
-    Word::This,
-    Word::Throw,
-    Word::True,
-    Word::Try,
-    Word::Typeof,
-    Word::Var,
-    Word::Void,
-    Word::While,
-    Word::With,
-    Word::Yield,
-    Word::Let,
-    Word::Async,
-    Word::From,
-    Word::Of,
-    Word::Get,
-    Word::Set,
-    Word::Static,
+/// A row for each word, in the order of the enum: its text, empty for `Plain`, and whether it is no
+/// identifier. `let` counts as one of these.
+pub const WORDS: &[(Word, &str, bool)] = &[
+    (Word::Plain, "", false),
+    (Word::Await, "await", true),
+    (Word::Break, "break", true),
+    (Word::Case, "case", true),
+    (Word::Catch, "catch", true),
+    (Word::Class, "class", true),
+    (Word::Const, "const", true),
+    (Word::Continue, "continue", true),
+    (Word::Debugger, "debugger", true),
+    (Word::Default, "default", true),
+    (Word::Delete, "delete", true),
+    (Word::Do, "do", true),
+    (Word::Else, "else", true),
+    (Word::Enum, "enum", true),
+    (Word::Export, "export", true),
+    (Word::Extends, "extends", true),
+    (Word::False, "false", true),
+    (Word::Finally, "finally", true),
+    (Word::For, "for", true),
+    (Word::Function, "function", true),
+    (Word::If, "if", true),
+    (Word::Import, "import", true),
+    (Word::In, "in", true),
+    (Word::Instanceof, "instanceof", true),
+    (Word::New, "new", true),
+    (Word::Null, "null", true),
+    (Word::Return, "return", true),
+    (Word::Super, "super", true),
+    (Word::Switch, "switch", true),
+    (Word::This, "this", true),
+    (Word::Throw, "throw", true),
+    (Word::True, "true", true),
+    (Word::Try, "try", true),
+    (Word::Typeof, "typeof", true),
+    (Word::Var, "var", true),
+    (Word::Void, "void", true),
+    (Word::While, "while", true),
+    (Word::With, "with", true),
+    (Word::Yield, "yield", true),
+    (Word::Let, "let", true),
+    (Word::Async, "async", false),
+    (Word::From, "from", false),
+    (Word::Of, "of", false),
+    (Word::Get, "get", false),
+    (Word::Set, "set", false),
+    (Word::Static, "static", false),
 ];
+
+#[tactic(auto, unfolding(crate::specs::Words::words, crate::specs::Words::word_spellings, crate::specs::Words::reservations, type_defs::specs::Rows::in_order))]
+fn word_rows() -> &'static [(Word, &'static str, bool)]
+    ensures count { length result.now ≡ 46 }
+    ensures order { IsTrue (are_in_order words) }
+    ensures words { map (λ row. row.0) result.now ≡ words }
+    ensures spellings { map (λ row. row.1.now) result.now ≡ word_spellings }
+    ensures reserved { map (λ row. row.2) result.now ≡ reservations }
+{
+    WORDS
+}
 
 impl Word {
     /// The word's text, empty for `Plain`.
-    #[tactic(auto, unfolding(crate::specs::Words::word_spelling))]
     pub fn spelling(self) -> &'static str
         ensures { result.now ≡ word_spelling self }
     {
-        match self {
-            Word::Plain => "",
-            Word::Await => "await",
-            Word::Break => "break",
-            Word::Case => "case",
-            Word::Catch => "catch",
-            Word::Class => "class",
-            Word::Const => "const",
-            Word::Continue => "continue",
-            Word::Debugger => "debugger",
-            Word::Default => "default",
-            Word::Delete => "delete",
-            Word::Do => "do",
-            Word::Else => "else",
-            Word::Enum => "enum",
-            Word::Export => "export",
-            Word::Extends => "extends",
-            Word::False => "false",
-            Word::Finally => "finally",
-            Word::For => "for",
-            Word::Function => "function",
-            Word::If => "if",
-            Word::Import => "import",
-            Word::In => "in",
-            Word::Instanceof => "instanceof",
-            Word::New => "new",
-            Word::Null => "null",
-            Word::Return => "return",
-            Word::Super => "super",
-            Word::Switch => "switch",
-            Word::This => "this",
-            Word::Throw => "throw",
-            Word::True => "true",
-            Word::Try => "try",
-            Word::Typeof => "typeof",
-            Word::Var => "var",
-            Word::Void => "void",
-            Word::While => "while",
-            Word::With => "with",
-            Word::Yield => "yield",
-            Word::Let => "let",
-            Word::Async => "async",
-            Word::From => "from",
-            Word::Of => "of",
-            Word::Get => "get",
-            Word::Set => "set",
-            Word::Static => "static",
-        }
+        word_rows()[self as usize].1
     }
 
-    /// The word's place from 1 in `WORDS`, 0 for `Plain`.
+    /// The word's place in the enum, 0 for `Plain`.
     pub fn number(self) -> u8
         ensures { result ≡ word_number self }
     {
-        match self {
-            Word::Plain => 0,
-            Word::Await => 1,
-            Word::Break => 2,
-            Word::Case => 3,
-            Word::Catch => 4,
-            Word::Class => 5,
-            Word::Const => 6,
-            Word::Continue => 7,
-            Word::Debugger => 8,
-            Word::Default => 9,
-            Word::Delete => 10,
-            Word::Do => 11,
-            Word::Else => 12,
-            Word::Enum => 13,
-            Word::Export => 14,
-            Word::Extends => 15,
-            Word::False => 16,
-            Word::Finally => 17,
-            Word::For => 18,
-            Word::Function => 19,
-            Word::If => 20,
-            Word::Import => 21,
-            Word::In => 22,
-            Word::Instanceof => 23,
-            Word::New => 24,
-            Word::Null => 25,
-            Word::Return => 26,
-            Word::Super => 27,
-            Word::Switch => 28,
-            Word::This => 29,
-            Word::Throw => 30,
-            Word::True => 31,
-            Word::Try => 32,
-            Word::Typeof => 33,
-            Word::Var => 34,
-            Word::Void => 35,
-            Word::While => 36,
-            Word::With => 37,
-            Word::Yield => 38,
-            Word::Let => 39,
-            Word::Async => 40,
-            Word::From => 41,
-            Word::Of => 42,
-            Word::Get => 43,
-            Word::Set => 44,
-            Word::Static => 45,
-        }
+        self as u8
     }
 
     /// Whether the word is no identifier. `let` counts as one of these.
     pub fn is_reserved(self) -> bool
         ensures { result ≡ reserved self }
     {
-        match self {
-            Word::Plain
-            | Word::Async
-            | Word::From
-            | Word::Of
-            | Word::Get
-            | Word::Set
-            | Word::Static => false,
-            _ => true,
-        }
+        word_rows()[self as usize].2
     }
 
     /// The word that the bytes of a name spell, `Plain` where they spell none.
@@ -245,11 +155,12 @@ impl Word {
     pub fn of_units(name: &[u16]) -> Word
         ensures { result ≡ word_of name.now }
     {
-        first_spelled_units(&WORDS, name)
+        first_row(word_rows(), name)
     }
 }
 
 // The words that begin with the byte.
+#[tactic(auto, unfolding(crate::specs::Words::words, crate::specs::Words::word_spellings, crate::specs::Words::words_on))]
 fn words_on(first: u8) -> &'static [Word]
     ensures { result.now ≡ words_on first }
 {
@@ -298,28 +209,20 @@ fn first_spelled<T: Text>(words: &[Word], name: T) -> Word
     Word::Plain
 }
 
-fn first_spelled_units(words: &[Word], name: &[u16]) -> Word
-    ensures { result ≡ first_spelled words.now name.now }
+fn first_row(rows: &[(Word, &str, bool)], name: &[u16]) -> Word
+    ensures { result ≡ first_spelled (map (λ row. row.0) rows.now) name.now }
 {
-    for word in words {
-        if spells(word.spelling().as_bytes(), name) {
-            return *word;
+    for row in rows {
+        if is_spelled(row.0, name) {
+            return row.0;
         }
     }
     Word::Plain
 }
 
-// Whether the code units are those of the bytes' ASCII text.
-fn spells(text: &[u8], units: &[u16]) -> bool
-    ensures { result ≡ bytes_eq text.now units.now }
+#[tactic(auto, using(crate::proofs::WordLemmas::turned))]
+fn is_spelled(word: Word, name: &[u16]) -> bool
+    ensures { result ≡ bytes_eq (word_spelling word) name.now }
 {
-    if text.len() != units.len() {
-        return false;
-    }
-    for at in 0..text.len() {
-        if u16::from(text[at]) != units[at] {
-            return false;
-        }
-    }
-    true
+    are_bytes(name, word.spelling().as_bytes())
 }

@@ -8,3 +8,4 @@ pub mod StatementLeaves
 pub mod LiteralLeaves
 pub mod TemplateLeaves
 pub mod SameTexts
+pub mod Rows

@@ -1,5 +1,5 @@
 -- Literals as leaves.
-use Rattle.std.proofs.Common.{◌≡◌, ◌≤◌, ◌<◌, ◌+◌, ◌-◌, ℕ, zero, suc, List, [], ◌∷◌, length, drop, get_or, Option, Some, Ok, true, false, refl, ap, sym, ◌∙◌, arith, length-drop}
+use Rattle.std.proofs.Common.{◌≡◌, ◌≤◌, ◌<◌, ◌+◌, ◌-◌, ℕ, zero, suc, List, [], ◌∷◌, ◌++◌, length, drop, get_or, Option, Some, None, Ok, true, false, refl, ap, sym, ◌∙◌, arith, length-drop}
 use Rattle.std.specs.Prelude.{◌==◌, slice_range}
 use Rattle.std.specs.List.{list_any}
 use Rattle.std.proofs.lemmas.Bool.{eq-eqb, ne_eqb}
@@ -16,70 +16,92 @@ use Rattle.js_tokens.specs.declared.token.TokenKind.TheVariants as t
 use Rattle.js_tokens.specs.declared.word.Word.TheVariants as w
 use Rattle.js_lexer.specs.Cursors.{is_word}
 use Rattle.js_lexer.specs.Scan.{scan}
-use Rattle.js_forms.specs.Fixed.{sort_name}
-use Rattle.js_forms.specs.Levels.{level}
+use Rattle.js_forms.specs.Contexts.{outermost}
+use Rattle.js_forms.specs.Fixed.{sort_name, leading}
+use Rattle.js_forms.specs.Own.{literal}
+use Rattle.js_forms.specs.declared.form.Sort.{Sort}
+use Rattle.js_forms.specs.declared.levels.TheConstants.{PRIMARY}
+use Rattle.js_forms.specs.declared.piece.Fixed.TheVariants as x
+use Rattle.js_forms.specs.declared.piece.Own.TheVariants as own
+use Rattle.js_forms.specs.declared.piece.Test.TheVariants as test
+use Rattle.spelling_rules.specs.Spells.{Anything, Fills, a_scalar, an_own}
 use Rattle.js_forms.specs.declared.form.Form.TheVariants as f
 use Rattle.js_forms.specs.declared.form.Sort.TheVariants as sort
-use Rattle.tree_forms.specs.Tokens.{word, texts, texts_of, string_text, quoted, number, big_int, regex, flags_of, regex_texts}
-use Rattle.tree_forms.specs.Pieces.{text}
-use Rattle.tree_forms.specs.Spellings.{a_word}
+use Rattle.spelling_rules.specs.Tokens.{texts, texts_of, string_text, flags_of, regex_texts}
+use Rattle.js_forms.specs.declared.piece.Lexeme.TheVariants as l
+use Rattle.js_forms.specs.declared.piece.Piece.TheVariants as p
+use Rattle.js_forms.specs.declared.piece.Spelling.TheVariants as v
+use Rattle.type_defs.specs.declared.kind.Kind.TheVariants as of_kind
 use Rattle.leaf_spellings.specs.Begun.{Begins}
 use Rattle.leaf_spellings.specs.Leaves.{Leaf}
 use Rattle.leaf_spellings.proofs.OneToken.{leaf_of, text_fills, token_fills}
+use Rattle.leaf_spellings.proofs.Rows as rows
+
+-- the scalars that the form of a literal determines
+abbrev scalars_of : Sort → List Scalar
+scalars_of sort = leading (f.Literal sort) (p.Scalar x.LiteralKind ∷ p.Scalar x.WordValue ∷ p.Scalar x.WordFlags ∷ p.Own own.Literal ∷ [])
 
 -- a value without flags
 abbrev alone : List ℕ → List Scalar
 alone units = scalar.Text units ∷ scalar.Null ∷ []
 
-string-text : (s : List ℕ) (first : Token) (units : List ℕ) → first.kind ≡ t.Quoted → string_value (slice_range s (first.start + 1) (first.end - 1)) ≡ Ok units → texts quoted s first ≡ Some (alone units)
-string-text s first units kind is = ap (λ (k : TokenKind). texts_of quoted k s first) kind ∙ ap string_text is
+-- the piece of a literal of this sort fills the span
+literal_of : (s : List ℕ) (span : Span) (first : Token) (sort : Sort) (found more : List Scalar) (most : ℕ) → Begins s span first → found ≡ scalars_of sort ++ more
+    → Fills Anything s (f.Literal sort) outermost 0 (literal sort ∷ []) span.start span.end more [] None most → Leaf s span.start span.end of_kind.Literal found
+literal_of s span first sort found more most begins is fills =
+    leaf_of s span first (f.Literal sort) of_kind.Literal v.Usual (p.Scalar x.LiteralKind ∷ p.Scalar x.WordValue ∷ p.Scalar x.WordFlags ∷ p.Own own.Literal ∷ []) [] found more most (rows.a_literal sort) (rows.a_literal_kind sort) begins is
+    (a_scalar (f.Literal sort) outermost 0 most span.start span.end _ more [] None x.LiteralKind (a_scalar (f.Literal sort) outermost 0 most span.start span.end _ more [] None x.WordValue
+    (a_scalar (f.Literal sort) outermost 0 most span.start span.end _ more [] None x.WordFlags (an_own (f.Literal sort) outermost 0 most span.start span.end [] more [] None own.Literal fills))))
+
+string-text : (s : List ℕ) (first : Token) (units : List ℕ) → first.kind ≡ t.Quoted → string_value (slice_range s (first.start + 1) (first.end - 1)) ≡ Ok units → texts l.Quoted s first ≡ Some (alone units)
+string-text s first units kind is = ap (λ (k : TokenKind). texts_of l.Quoted k s first) kind ∙ ap string_text is
 
 pub a_string : (s : List ℕ) (span : Span) (first : Token) (found : List Scalar) (units : List ℕ) → Begins s span first → first.end ≡ span.end → first.kind ≡ t.Quoted
     → found ≡ scalar.Text (sort_name sort.Quoted) ∷ scalar.Text units ∷ scalar.Null ∷ [] → string_value (slice_range s (first.start + 1) (first.end - 1)) ≡ Ok units
-    → Leaf s span.start span.end 2 found
+    → Leaf s span.start span.end of_kind.Literal found
 a_string s span first found units begins ends kind has is =
-    leaf_of s span first (f.Literal sort.Quoted) (level (f.Literal sort.Quoted)) (text quoted ∷ []) [] found (alone units) 19 refl begins has
-    (text_fills s span.start span.end first quoted (alone units) begins.found (string-text s first units kind is) ends)
+    literal_of s span first sort.Quoted found (alone units) PRIMARY begins has
+    (text_fills s (f.Literal sort.Quoted) span.start span.end first l.Quoted (alone units) begins.found (string-text s first units kind is) ends)
 
-number-text : (s : List ℕ) (first : Token) (units : List ℕ) → first.kind ≡ t.Number → units ≡ code_units false (slice_range s first.start first.end) → texts number s first ≡ Some (alone units)
+number-text : (s : List ℕ) (first : Token) (units : List ℕ) → first.kind ≡ t.Number → units ≡ code_units false (slice_range s first.start first.end) → texts l.Number s first ≡ Some (alone units)
 number-text s first units kind is =
-    ap (λ (k : TokenKind). texts_of number k s first) kind ∙ ap (λ (value : List ℕ). Some (alone value)) (sym is)
+    ap (λ (k : TokenKind). texts_of l.Number k s first) kind ∙ ap (λ (value : List ℕ). Some (alone value)) (sym is)
 
 pub a_number : (s : List ℕ) (span : Span) (first : Token) (found : List Scalar) (units : List ℕ) → Begins s span first → first.end ≡ span.end → first.kind ≡ t.Number
     → found ≡ scalar.Text (sort_name sort.Number) ∷ scalar.Text units ∷ scalar.Null ∷ [] → units ≡ code_units false (slice_range s first.start first.end)
-    → Leaf s span.start span.end 2 found
+    → Leaf s span.start span.end of_kind.Literal found
 a_number s span first found units begins ends kind has is =
-    leaf_of s span first (f.Literal sort.Number) (level (f.Literal sort.Number)) (text number ∷ []) [] found (alone units) 19 refl begins has
-    (text_fills s span.start span.end first number (alone units) begins.found (number-text s first units kind is) ends)
+    literal_of s span first sort.Number found (alone units) PRIMARY begins has
+    (text_fills s (f.Literal sort.Number) span.start span.end first l.Number (alone units) begins.found (number-text s first units kind is) ends)
 
-big-int-text : (s : List ℕ) (first : Token) (units : List ℕ) → first.kind ≡ t.BigInt → units ≡ code_units false (slice_range s first.start first.end) → texts big_int s first ≡ Some (alone units)
+big-int-text : (s : List ℕ) (first : Token) (units : List ℕ) → first.kind ≡ t.BigInt → units ≡ code_units false (slice_range s first.start first.end) → texts l.BigInt s first ≡ Some (alone units)
 big-int-text s first units kind is =
-    ap (λ (k : TokenKind). texts_of big_int k s first) kind ∙ ap (λ (value : List ℕ). Some (alone value)) (sym is)
+    ap (λ (k : TokenKind). texts_of l.BigInt k s first) kind ∙ ap (λ (value : List ℕ). Some (alone value)) (sym is)
 
 pub a_big_int : (s : List ℕ) (span : Span) (first : Token) (found : List Scalar) (units : List ℕ) → Begins s span first → first.end ≡ span.end → first.kind ≡ t.BigInt
     → found ≡ scalar.Text (sort_name sort.BigInt) ∷ scalar.Text units ∷ scalar.Null ∷ [] → units ≡ code_units false (slice_range s first.start first.end)
-    → Leaf s span.start span.end 2 found
+    → Leaf s span.start span.end of_kind.Literal found
 a_big_int s span first found units begins ends kind has is =
-    leaf_of s span first (f.Literal sort.BigInt) (level (f.Literal sort.BigInt)) (text big_int ∷ []) [] found (alone units) 19 refl begins has
-    (text_fills s span.start span.end first big_int (alone units) begins.found (big-int-text s first units kind is) ends)
+    literal_of s span first sort.BigInt found (alone units) PRIMARY begins has
+    (text_fills s (f.Literal sort.BigInt) span.start span.end first l.BigInt (alone units) begins.found (big-int-text s first units kind is) ends)
 
 pub a_null : (s : List ℕ) (span : Span) (first : Token) (found : List Scalar) → Begins s span first → first.end ≡ span.end → is_word first.kind w.Null ≡ true
-    → found ≡ scalar.Text (sort_name sort.Null) ∷ scalar.Null ∷ scalar.Null ∷ [] → Leaf s span.start span.end 2 found
+    → found ≡ scalar.Text (sort_name sort.Null) ∷ scalar.Null ∷ scalar.Null ∷ [] → Leaf s span.start span.end of_kind.Literal found
 a_null s span first found begins ends is has =
-    leaf_of s span first (f.Literal sort.Null) (level (f.Literal sort.Null)) (a_word w.Null ∷ []) [] found [] 0 refl begins has
-    (token_fills s span.start span.end first (word w.Null) begins.found is ends)
+    literal_of s span first sort.Null found [] 0 begins has
+    (token_fills s (f.Literal sort.Null) span.start span.end first (test.Word w.Null) begins.found is ends)
 
 pub a_true : (s : List ℕ) (span : Span) (first : Token) (found : List Scalar) → Begins s span first → first.end ≡ span.end → is_word first.kind w.True ≡ true
-    → found ≡ scalar.Text (sort_name sort.True) ∷ scalar.Truth true ∷ scalar.Null ∷ [] → Leaf s span.start span.end 2 found
+    → found ≡ scalar.Text (sort_name sort.True) ∷ scalar.Truth true ∷ scalar.Null ∷ [] → Leaf s span.start span.end of_kind.Literal found
 a_true s span first found begins ends is has =
-    leaf_of s span first (f.Literal sort.True) (level (f.Literal sort.True)) (a_word w.True ∷ []) [] found [] 0 refl begins has
-    (token_fills s span.start span.end first (word w.True) begins.found is ends)
+    literal_of s span first sort.True found [] 0 begins has
+    (token_fills s (f.Literal sort.True) span.start span.end first (test.Word w.True) begins.found is ends)
 
 pub a_false : (s : List ℕ) (span : Span) (first : Token) (found : List Scalar) → Begins s span first → first.end ≡ span.end → is_word first.kind w.False ≡ true
-    → found ≡ scalar.Text (sort_name sort.False) ∷ scalar.Truth false ∷ scalar.Null ∷ [] → Leaf s span.start span.end 2 found
+    → found ≡ scalar.Text (sort_name sort.False) ∷ scalar.Truth false ∷ scalar.Null ∷ [] → Leaf s span.start span.end of_kind.Literal found
 a_false s span first found begins ends is has =
-    leaf_of s span first (f.Literal sort.False) (level (f.Literal sort.False)) (a_word w.False ∷ []) [] found [] 0 refl begins has
-    (token_fills s span.start span.end first (word w.False) begins.found is ends)
+    literal_of s span first sort.False found [] 0 begins has
+    (token_fills s (f.Literal sort.False) span.start span.end first (test.Word w.False) begins.found is ends)
 
 abbrev NoSlash : ℕ → List ℕ → Type 0
 NoSlash at bytes = (k : ℕ) → at ≤ k → k < length bytes → get_or bytes k 0 ≡ 0x2F → ⊥
@@ -116,7 +138,7 @@ a_pattern bytes at pattern flags some inside slash last front rest =
 
 pub a_regex : (s : List ℕ) (span : Span) (first again : Token) (found : List Scalar) (pattern flags : List ℕ) → Begins s span first → scan s span.start RegExp ≡ Ok again → again.end ≡ span.end
     → again.kind ≡ t.Regex → found ≡ scalar.Text (sort_name sort.Regex) ∷ scalar.Text pattern ∷ scalar.Text flags ∷ []
-    → regex_texts (slice_range s again.start again.end) ≡ Some (scalar.Text pattern ∷ scalar.Text flags ∷ []) → Leaf s span.start span.end 2 found
+    → regex_texts (slice_range s again.start again.end) ≡ Some (scalar.Text pattern ∷ scalar.Text flags ∷ []) → Leaf s span.start span.end of_kind.Literal found
 a_regex s span first again found pattern flags begins scanned ends kind has is =
-    leaf_of s span first (f.Literal sort.Regex) (level (f.Literal sort.Regex)) (text regex ∷ []) [] found (scalar.Text pattern ∷ scalar.Text flags ∷ []) 19 refl begins has
-    (text_fills s span.start span.end again regex (scalar.Text pattern ∷ scalar.Text flags ∷ []) scanned (ap (λ (k : TokenKind). texts_of regex k s again) kind ∙ is) ends)
+    literal_of s span first sort.Regex found (scalar.Text pattern ∷ scalar.Text flags ∷ []) PRIMARY begins has
+    (text_fills s (f.Literal sort.Regex) span.start span.end again l.Regex (scalar.Text pattern ∷ scalar.Text flags ∷ []) scanned (ap (λ (k : TokenKind). texts_of l.Regex k s again) kind ∙ is) ends)

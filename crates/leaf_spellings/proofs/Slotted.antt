@@ -7,9 +7,10 @@ use Rattle.tree_core.specs.declared.tree.Tree.{Tree, fold-roll-Tree}
 use Rattle.tree_core.specs.Notes.{Notes}
 use Rattle.tree_core.specs.Syntax.{Syntax, node}
 use Rattle.tree_core.specs.View.{Row, Spot, slot_step, place_step, tree_step, slot_view, slots_of, syntax}
+use Rattle.type_defs.specs.declared.kind.Kind.{Kind}
 use Rattle.leaf_spellings.specs.Leaves.{LeafSpelled}
 
-slotted : (s : List ℕ) (span : Span) (kind : ℕ) (found : List Scalar) (slots : List Slot) (notes : Notes) (from : Option ℕ) → (slots ≡ [] → ⊥)
+slotted : (s : List ℕ) (span : Span) (kind : Kind) (found : List Scalar) (slots : List Slot) (notes : Notes) (from : Option ℕ) → (slots ≡ [] → ⊥)
     → LeafSpelled s span (node kind found (slots_of (map slot_view slots)) notes from)
 slotted s span kind found [] notes from some = absurd (some refl)
 slotted s span kind found (first ∷ more) notes from some = tt

@@ -4,10 +4,11 @@ use Rattle.std.specs.Prelude.{slice_range}
 use Rattle.tree_core.specs.declared.scalars.Scalar.{Scalar}
 use Rattle.tree_core.specs.declared.scalars.Scalar.TheVariants as scalar
 use Rattle.js_tokens.specs.Texts.{code_units}
+use Rattle.type_defs.specs.declared.kind.Kind.TheVariants as of_kind
 use Rattle.leaf_spellings.specs.Leaves.{Leaf, characters}
 
 abbrev one : List ℕ → List Scalar
 one units = scalar.Text units ∷ []
 
-pub some_characters : (s : List ℕ) (i j : ℕ) (found : List Scalar) (units : List ℕ) → found ≡ one units → units ≡ code_units true (slice_range s i j) → Leaf s i j 14 found
-some_characters s i j found units has is = subst (λ (all : List Scalar). Leaf s i j 14 all) (sym (has ∙ ap one is)) (characters i j)
+pub some_characters : (s : List ℕ) (i j : ℕ) (found : List Scalar) (units : List ℕ) → found ≡ one units → units ≡ code_units true (slice_range s i j) → Leaf s i j of_kind.TemplateElement found
+some_characters s i j found units has is = subst (λ (all : List Scalar). Leaf s i j of_kind.TemplateElement all) (sym (has ∙ ap one is)) (characters i j)

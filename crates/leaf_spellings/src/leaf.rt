@@ -38,22 +38,22 @@ fn is_leaf(
     source: &Source,
     span: Span,
     token: Token,
-    kind: u8,
+    kind: Kind,
     scalars: &Scalars,
 ) -> Result<bool, AllocError>
     requires { Begins source.now span token }
     ensures { IfOk result (λ held. held ≡ true → Leaf source.now span.start span.end kind scalars.now) }
 {
-    match Kind::from_number(kind) {
-        Some(Kind::Identifier) => is_name(alloc, source, span, token, scalars),
-        Some(Kind::PrivateIdentifier) => is_private_name(alloc, source, span, token, scalars),
-        Some(Kind::Literal) => is_literal(alloc, source, span, token, scalars),
-        Some(Kind::ThisExpression) => Ok(is_this(source, span, token, scalars)),
-        Some(Kind::Super) => Ok(is_super(source, span, token, scalars)),
-        Some(Kind::MetaProperty) => Ok(is_meta_property(source, span, token, scalars)),
-        Some(Kind::EmptyStatement) => Ok(is_empty(source, span, token, scalars)),
-        Some(Kind::DebuggerStatement) => Ok(is_debugger(source, span, token, scalars)),
-        Some(Kind::Directive) => is_directive(alloc, source, span, token, scalars),
+    match kind {
+        Kind::Identifier => is_name(alloc, source, span, token, scalars),
+        Kind::PrivateIdentifier => is_private_name(alloc, source, span, token, scalars),
+        Kind::Literal => is_literal(alloc, source, span, token, scalars),
+        Kind::ThisExpression => Ok(is_this(source, span, token, scalars)),
+        Kind::Super => Ok(is_super(source, span, token, scalars)),
+        Kind::MetaProperty => Ok(is_meta_property(source, span, token, scalars)),
+        Kind::EmptyStatement => Ok(is_empty(source, span, token, scalars)),
+        Kind::DebuggerStatement => Ok(is_debugger(source, span, token, scalars)),
+        Kind::Directive => is_directive(alloc, source, span, token, scalars),
         _ => Ok(false),
     }
 }
@@ -73,7 +73,7 @@ pub fn is_spelled(
     if !tree.slots.is_empty() {
         return Ok(true);
     }
-    if tree.kind == Kind::TemplateElement.number() {
+    if matches!(tree.kind, Kind::TemplateElement) {
         return is_characters(alloc, source, span, &tree.scalars);
     }
     match token_at(source, span) {

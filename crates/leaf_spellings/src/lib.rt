@@ -1,7 +1,7 @@
 //! Whether a node without slots is what a source spells at a stretch.
 //!
-//! It stands behind the reader of trees, which gives each node a stretch: here the token at the start
-//! of the stretch is read once more, and compared with the node.
+//! It stands behind the reader of trees, which gives each node a stretch: here the token at the
+//! start of the stretch is read once more, and compared with the node.
 #![tactic(auto)]
 
 mod leaf;

@@ -1,17 +1,15 @@
-//! Literals (ECMA-262, clauses 12.9 and 13.2.3). A literal's scalars are its sort, its value and its
-//! flags.
+//! Literals (ECMA-262, clauses 12.9 and 13.2.3). A literal's scalars are its sort, its value and
+//! its flags.
 
 ghost use Rattle.std.specs.Prelude.{◌≡◌, ◌≤◌, ◌<◌, ◌-◌, ◌∷◌, [], ℕ, length, slice_index, true, Some, IfOk};
 ghost use Rattle.tree_core.specs.declared.scalars.Scalar.TheVariants as scalar;
-ghost use Rattle.tree_forms.specs.Tokens.{regex_texts};
-ghost use Rattle.type_defs.specs.Kinds.{number_of};
+ghost use Rattle.spelling_rules.specs.Tokens.{regex_texts};
 ghost use Rattle.type_defs.specs.declared.kind.Kind.TheVariants as kind;
 ghost use Rattle.leaf_spellings.specs.Begun.{Begins};
 ghost use Rattle.leaf_spellings.specs.Leaves.{Leaf};
 
 use crate::same::{spells_string, spells_written};
 use crate::scalars::value_of;
-use crate::words::is_word;
 use cm_text::Source;
 use js_forms::Sort;
 use js_lexer::next;
@@ -30,7 +28,7 @@ fn is_string(
 ) -> Result<bool, AllocError>
     requires begins { Begins source.now span token }
     requires sort { token.kind ≡ TokenKind.Quoted }
-    ensures { IfOk result (λ held. held ≡ true → Leaf source.now span.start span.end (number_of kind.Literal) scalars.now) }
+    ensures { IfOk result (λ held. held ≡ true → Leaf source.now span.start span.end kind.Literal scalars.now) }
 {
     if token.end != span.end || token.end - token.start < 2 {
         return Ok(false);
@@ -53,7 +51,7 @@ fn is_number(
 ) -> Result<bool, AllocError>
     requires begins { Begins source.now span token }
     requires sort { token.kind ≡ TokenKind.Number }
-    ensures { IfOk result (λ held. held ≡ true → Leaf source.now span.start span.end (number_of kind.Literal) scalars.now) }
+    ensures { IfOk result (λ held. held ≡ true → Leaf source.now span.start span.end kind.Literal scalars.now) }
 {
     if token.end != span.end {
         return Ok(false);
@@ -78,7 +76,7 @@ fn is_big_int(
 ) -> Result<bool, AllocError>
     requires begins { Begins source.now span token }
     requires sort { token.kind ≡ TokenKind.BigInt }
-    ensures { IfOk result (λ held. held ≡ true → Leaf source.now span.start span.end (number_of kind.Literal) scalars.now) }
+    ensures { IfOk result (λ held. held ≡ true → Leaf source.now span.start span.end kind.Literal scalars.now) }
 {
     if token.end != span.end {
         return Ok(false);
@@ -96,24 +94,24 @@ fn is_big_int(
 #[tactic(auto, using(crate::proofs::LiteralLeaves::a_null, crate::proofs::LiteralLeaves::a_true, crate::proofs::LiteralLeaves::a_false))]
 fn is_word_literal(source: &Source, span: Span, token: Token, scalars: &Scalars) -> bool
     requires { Begins source.now span token }
-    ensures { result ≡ true → Leaf source.now span.start span.end (number_of kind.Literal) scalars.now }
+    ensures { result ≡ true → Leaf source.now span.start span.end kind.Literal scalars.now }
 {
     if token.end != span.end {
         return false;
     }
-    if is_word(token.kind, Word::Null) {
+    if token.kind.is_word(Word::Null) {
         return match value_of(scalars, Sort::Null) {
             Some((Scalar::Null, Scalar::Null)) => true,
             _ => false,
         };
     }
-    if is_word(token.kind, Word::True) {
+    if token.kind.is_word(Word::True) {
         return match value_of(scalars, Sort::True) {
             Some((Scalar::Truth(truth), Scalar::Null)) => *truth,
             _ => false,
         };
     }
-    is_word(token.kind, Word::False)
+    token.kind.is_word(Word::False)
         && match value_of(scalars, Sort::False) {
             Some((Scalar::Truth(truth), Scalar::Null)) => !*truth,
             _ => false,
@@ -165,7 +163,7 @@ fn is_regex(
     scalars: &Scalars,
 ) -> Result<bool, AllocError>
     requires { Begins source.now span first }
-    ensures { IfOk result (λ held. held ≡ true → Leaf source.now span.start span.end (number_of kind.Literal) scalars.now) }
+    ensures { IfOk result (λ held. held ≡ true → Leaf source.now span.start span.end kind.Literal scalars.now) }
 {
     let Ok(token) = next(source, span.start, Goal::RegExp) else {
         return Ok(false);
@@ -191,7 +189,7 @@ pub fn is_literal(
     scalars: &Scalars,
 ) -> Result<bool, AllocError>
     requires { Begins source.now span token }
-    ensures { IfOk result (λ held. held ≡ true → Leaf source.now span.start span.end (number_of kind.Literal) scalars.now) }
+    ensures { IfOk result (λ held. held ≡ true → Leaf source.now span.start span.end kind.Literal scalars.now) }
 {
     match token.kind {
         TokenKind::Quoted => is_string(alloc, source, span, token, scalars),

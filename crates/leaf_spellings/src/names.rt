@@ -1,7 +1,6 @@
 //! Names: identifiers, and those that are private (ECMA-262, clause 12.7).
 
 ghost use Rattle.std.specs.Prelude.{◌≡◌, true, IfOk};
-ghost use Rattle.type_defs.specs.Kinds.{number_of};
 ghost use Rattle.type_defs.specs.declared.kind.Kind.TheVariants as kind;
 ghost use Rattle.leaf_spellings.specs.Begun.{Begins};
 ghost use Rattle.leaf_spellings.specs.Leaves.{Leaf};
@@ -13,7 +12,8 @@ use js_tokens::{Token, TokenKind};
 use std::alloc::{AllocError, Global};
 use tree_core::{Scalars, Span};
 
-/// Whether the stretch is the name of an identifier, which may be a reserved word where it is a key.
+/// Whether the stretch is the name of an identifier, which may be a reserved word where it is a
+/// key.
 #[tactic(auto, using(crate::proofs::NameLeaves::a_name))]
 pub fn is_name(
     alloc: Global,
@@ -23,7 +23,7 @@ pub fn is_name(
     scalars: &Scalars,
 ) -> Result<bool, AllocError>
     requires { Begins source.now span token }
-    ensures { IfOk result (λ held. held ≡ true → Leaf source.now span.start span.end (number_of kind.Identifier) scalars.now) }
+    ensures { IfOk result (λ held. held ≡ true → Leaf source.now span.start span.end kind.Identifier scalars.now) }
 {
     if token.end != span.end {
         return Ok(false);
@@ -44,7 +44,7 @@ pub fn is_private_name(
     scalars: &Scalars,
 ) -> Result<bool, AllocError>
     requires { Begins source.now span token }
-    ensures { IfOk result (λ held. held ≡ true → Leaf source.now span.start span.end (number_of kind.PrivateIdentifier) scalars.now) }
+    ensures { IfOk result (λ held. held ≡ true → Leaf source.now span.start span.end kind.PrivateIdentifier scalars.now) }
 {
     if token.end != span.end {
         return Ok(false);

@@ -1,7 +1,6 @@
 //! Characters of templates (ECMA-262, clause 12.9.6).
 
 ghost use Rattle.std.specs.Prelude.{◌≡◌, ◌≤◌, length, true, IfOk};
-ghost use Rattle.type_defs.specs.Kinds.{number_of};
 ghost use Rattle.type_defs.specs.declared.kind.Kind.TheVariants as kind;
 ghost use Rattle.leaf_spellings.specs.Leaves.{Leaf};
 
@@ -21,7 +20,7 @@ pub fn is_characters(
 ) -> Result<bool, AllocError>
     requires ordered { span.start ≤ span.end }
     requires within { span.end ≤ length source.now }
-    ensures { IfOk result (λ held. held ≡ true → Leaf source.now span.start span.end (number_of kind.TemplateElement) scalars.now) }
+    ensures { IfOk result (λ held. held ≡ true → Leaf source.now span.start span.end kind.TemplateElement scalars.now) }
 {
     let bytes = &source.bytes()[span.start as usize..span.end as usize];
     match one_text(scalars) {

@@ -325,7 +325,7 @@ fn leaf(alloc: Global, kind: Kind, values: &[Value]) -> Result<Tree, AllocError>
         };
         scalars = scalars.with(alloc, scalar)?;
     }
-    Ok(Tree::new(kind.number(), scalars, Items::new(alloc)))
+    Ok(Tree::new(kind, scalars, Items::new(alloc)))
 }
 
 // Whether the case comes out as wanted.
@@ -392,7 +392,7 @@ fn leaves_the_rest(rt: HostRuntime) -> Result<(), Fail> {
     assert!(rt; is_spelled(alloc, &source, Span { start: 0, end: 8 }, &half)?);
     let mut slots = Items::new(alloc);
     slots.push(Slot::single(Place::filled(alloc, half)?))?;
-    let tree = Tree::new(Kind::ClassBody.number(), Scalars::new(), slots);
+    let tree = Tree::new(Kind::ClassBody, Scalars::new(), slots);
     assert!(rt; is_spelled(alloc, &source, Span { start: 0, end: 0 }, &tree)?);
     Ok(())
 }

@@ -4,6 +4,7 @@ use Rattle.std.proofs.lemmas.List.{take-append-le, take-set-le}
 use Rattle.std.proofs.Math.Seq.{take-length}
 use Rattle.tree_core.specs.declared.tree.PlaceName.{PlaceName}
 use Rattle.tree_core.specs.declared.scalars.Scalar.{Scalar}
+use Rattle.type_defs.specs.declared.kind.Kind.{Kind}
 use Rattle.type_defs.specs.Fields.{lists_at, scalar_count}
 use Rattle.node_arena.specs.declared.copies.Mark.{Mark}
 use Rattle.node_arena.specs.declared.links.Node.{Node}
@@ -127,7 +128,7 @@ front_name m A B p name e le =
 pub front_row : (m : Mark) (A B : Store) (node : ℕ) → B ≡ copied_in A node → IsFront m (front m A) → front m B ≡ front m A
 front_row m A B node e w =
     let F = A.forest in
-    let kind : ℕ = kind_at F node in
+    let kind : Kind = kind_at F node in
     let none : Option PlaceName = None in
     let nodes = F.nodes ++ new_node kind (length F.slots) ∷ [] in
     let slots = F.slots ++ new_slots (length F.nodes) (length F.places) 0 (lists_at kind) in

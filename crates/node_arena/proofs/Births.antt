@@ -2,6 +2,7 @@
 use Rattle.std.proofs.Common.{◌≡◌, ◌⊎◌, inl, inr, ⊎_elim, sym, ◌∙◌, ap, subst, refl, ℕ, zero, suc, ◌+◌, ◌<◌, ◌≤◌, ◌^◌, Bool, true, false, List, [], ◌∷◌, ◌++◌, length, map, Some, None, slice_get, arith, length-append}
 use Rattle.std.proofs.lemmas.List.{length-map}
 use Rattle.std.proofs.lemmas.Option.{slice_get_within}
+use Rattle.type_defs.specs.declared.kind.Kind.{Kind}
 use Rattle.type_defs.specs.Fields.{Field, slots_at, lists_at, is_list_at, list_some}
 use Rattle.type_defs.proofs.FieldTable.{slots_at_few}
 use Rattle.node_arena.specs.declared.links.Node.{Node}
@@ -110,11 +111,11 @@ new_slots_length j q k [] = refl
 new_slots_length j q k (b ∷ bs) = ap suc (new_slots_length j (after_slot q b) (suc k) bs)
 
 -- the form of a kind's slot, by the list of forms
-list_told : (kind k : ℕ) (b : Bool) → slice_get (lists_at kind) k ≡ Some b → b ≡ is_list_at kind k
+list_told : (kind : Kind) (k : ℕ) (b : Bool) → slice_get (lists_at kind) k ≡ Some b → b ≡ is_list_at kind k
 list_told kind k b g = let w = mapped_back (λ (f : Field). f.list) (slots_at kind) k b g in sym w.2 ∙ sym (ap list_some w.1)
 
 -- The laws of the forest with a new node.
-module _ (F : Forest) (kind : ℕ) where
+module _ (F : Forest) (kind : Kind) where
   abbrev S : ℕ
   S = length F.slots
 
@@ -264,7 +265,7 @@ module _ (F : Forest) (kind : ℕ) where
   }
 
 -- The table with a new node.
-stands_made : (t : Rows) (F : Forest) (kind : ℕ) → Stands t F → length t.slots ≡ length F.slots → length t.places ≡ length F.places → Stands (made_rows t kind) (make_of F kind)
+stands_made : (t : Rows) (F : Forest) (kind : Kind) → Stands t F → length t.slots ≡ length F.slots → length t.places ≡ length F.places → Stands (made_rows t kind) (make_of F kind)
 stands_made t F kind w es ep =
     let bs = lists_at kind in
     let en = ap length w.nodes in
@@ -300,10 +301,10 @@ stands_made t F kind w es ep =
           (append_cases F.slots (new_slots (length F.nodes) (length F.places) 0 bs) i n g);
     }
 
-few_lists : (kind : ℕ) → length (lists_at kind) ≤ 4
+few_lists : (kind : Kind) → length (lists_at kind) ≤ 4
 few_lists kind = let e = length-map (slots_at kind) (λ (f : Field). f.list) in let h = slots_at_few kind in omega arith
 
-pub keeps_made : (t : Rows) (kind : ℕ) → IsTable t → length t.nodes < 2 ^ 22 → length (make_of (forest_of t) kind).places ≤ 2 ^ 26 → Keeps (made_rows t kind) (make_of (forest_of t) kind)
+pub keeps_made : (t : Rows) (kind : Kind) → IsTable t → length t.nodes < 2 ^ 22 → length (make_of (forest_of t) kind).places ≤ 2 ^ 26 → Keeps (made_rows t kind) (make_of (forest_of t) kind)
 keeps_made t kind a few places =
     let F = forest_of t in
     let bs = lists_at kind in

@@ -1,5 +1,6 @@
 -- A copied row, as the method makes it.
 use Rattle.std.proofs.Common.{◌≡◌, sym, ◌∙◌, ap, subst, ℕ, ◌-◌, ◌<◌, ◌≤◌, None, length, arith}
+use Rattle.type_defs.specs.declared.kind.Kind.{Kind}
 use Rattle.type_defs.specs.Fields.{scalar_count}
 use Rattle.node_arena.specs.declared.copies.Mark.{Mark}
 use Rattle.node_arena.specs.Forest.{IsRoot, Linked, linked_of, make_of, node_at, put_of}
@@ -12,7 +13,7 @@ use Rattle.node_arena.proofs.Fronts.{take_within}
 use Rattle.node_arena.proofs.Roots.{base_put, base_row, copied_put, copied_row}
 use Rattle.node_arena.proofs.Stores.{store_copied}
 
-pub store_copied_on : (a b : Linked) (p q : Said) (A : Store) (node j k kind scalars places : ℕ) → IsStore a p → store_of a p ≡ A → node < length A.forest.nodes → j ≡ node → k ≡ node → 0 < a.spare → kind ≡ kind_at a.forest j → scalars ≡ scalar_count kind → places ≡ single_count kind → q ≡ with_copy p k scalars places → b ≡ linked_of (make_of a.forest kind) (a.spare - 1) → IsStore b q
+pub store_copied_on : (a b : Linked) (p q : Said) (A : Store) (node j k : ℕ) (kind : Kind) (scalars places : ℕ) → IsStore a p → store_of a p ≡ A → node < length A.forest.nodes → j ≡ node → k ≡ node → 0 < a.spare → kind ≡ kind_at a.forest j → scalars ≡ scalar_count kind → places ≡ single_count kind → q ≡ with_copy p k scalars places → b ≡ linked_of (make_of a.forest kind) (a.spare - 1) → IsStore b q
 store_copied_on a b p q A node j k kind scalars places w v at first second some kinds count singles says made =
     let same : j ≡ k = first ∙ sym second in
     let within : k < length a.forest.nodes = subst (λ z. z < length a.forest.nodes) (sym second) (subst (λ (z : Store). node < length z.forest.nodes) (sym v) at) in

@@ -2,6 +2,7 @@
 use Rattle.std.proofs.Common.{◌≡◌, inl, inr, sym, ◌∙◌, ap, subst, refl, ℕ, zero, suc, ◌*◌, ◌<◌, ◌≤◌, List, [], ◌∷◌, ◌++◌, length, map, take, Option, Some, None, slice_get, arith}
 use Rattle.std.proofs.lemmas.List.{length-map, length-take, take-set-le}
 use Rattle.std.proofs.Math.Seq.{take-append_seam}
+use Rattle.type_defs.specs.declared.kind.Kind.{Kind}
 use Rattle.type_defs.specs.Fields.{lists_at}
 use Rattle.node_arena.specs.declared.links.Node.{Node}
 use Rattle.node_arena.specs.declared.links.PlaceRow.{PlaceRow}
@@ -88,10 +89,10 @@ front_of_longer F nodes slots places =
     ∙ (ap (λ z. forest_with F.nodes z (take (length F.places) (F.places ++ places))) (take_front F.slots slots)
     ∙ ap (λ z. forest_with F.nodes F.slots z) (take_front F.places places))
 
-pub made_root : (F : Forest) (kind : ℕ) → IsRoot (make_of F kind) (length F.nodes)
+pub made_root : (F : Forest) (kind : Kind) → IsRoot (make_of F kind) (length F.nodes)
 made_root F kind = subst IsRoot_row (sym (push_new F.nodes (new_node kind (length F.slots)))) refl
 
-pub made_goes : (F : Forest) (kind : ℕ) → IsLawful F → IsLawful (make_of F kind) → MayGoBefore (make_of F kind) (length F.places) (length F.nodes)
+pub made_goes : (F : Forest) (kind : Kind) → IsLawful F → IsLawful (make_of F kind) → MayGoBefore (make_of F kind) (length F.places) (length F.nodes)
 made_goes F kind old now =
     let e = front_of_longer F (new_node kind (length F.slots) ∷ []) (new_slots (length F.nodes) (length F.places) 0 (lists_at kind)) (new_places (length F.slots) (lists_at kind)) in
     goes_before (length F.nodes) (length F.slots) (length F.places) (make_of F kind) (subst IsLawful (sym e) old) now (length F.nodes) (omega arith)
@@ -145,7 +146,7 @@ cut_case t u A n s p spare a v old few e =
     (subst (λ z. Ends_as z (linked_of (front_forest n s p (forest_of t.rows)) spare)) (sym e)
     (cut_keeps t.rows n s p spare a (subst (λ (z : Linked). IsLawful (front_forest n s p z.forest)) (sym v) old) (subst (λ (z : Linked). HasFewSlots (front_forest n s p z.forest)) (sym v) few)))
 
-pub made_apart : (t u : Table) (A : Linked) (kind n j : ℕ) → IsTable t.rows → Shows t A → IsTable u.rows → Shows u (linked_of (make_of A.forest kind) n) → j ≡ length t.rows.nodes → MayGoBefore (forest_of u.rows) (length A.forest.places) j
+pub made_apart : (t u : Table) (A : Linked) (kind : Kind) (n j : ℕ) → IsTable t.rows → Shows t A → IsTable u.rows → Shows u (linked_of (make_of A.forest kind) n) → j ≡ length t.rows.nodes → MayGoBefore (forest_of u.rows) (length A.forest.places) j
 made_apart t u A kind n j a v b w h =
     let e : forest_of u.rows ≡ make_of A.forest kind = ap (λ (z : Linked). z.forest) w in
     let old : IsLawful A.forest = lawful_told t A a v in

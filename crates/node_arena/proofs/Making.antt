@@ -5,9 +5,9 @@ use Rattle.std.proofs.lemmas.List.{get_or-map, length-map}
 use Rattle.node_arena.specs.declared.links.Node.{Node}
 use Rattle.node_arena.specs.declared.links.SlotRow.{SlotRow}
 use Rattle.node_arena.specs.declared.links.PlaceRow.{PlaceRow}
-use Rattle.type_defs.specs.declared.field_defs.FieldDef.{FieldDef}
+use Rattle.type_defs.specs.declared.kind.Kind.{Kind}
 use Rattle.node_arena.specs.Lists.{is_list}
-use Rattle.type_defs.specs.Fields.{Field, row_of, slots_at, lists_at}
+use Rattle.type_defs.specs.Fields.{Field, FieldDef, row_of, slots_at, lists_at}
 use Rattle.node_arena.specs.Rows.{Rows, Table, rows_of, table_of, made_rows, new_node, slot_row, slot_rows, place_row, place_rows, after_slot, empty_row}
 
 -- so many slots of a node are there: the rows, and those that are left, are all that are to come
@@ -30,11 +30,11 @@ place_more n false = omega arith
 
 -- one more slot
 pub making_more : (s₀ ss ss' : List SlotRow) (p₀ ps ps' : List PlaceRow) (node : ℕ) (fs : List FieldDef) (other : FieldDef) (k n m : ℕ) → IsMaking s₀ ss p₀ ps node (map is_list fs) k
-    → k < length fs → n ≡ length ps → m ≡ length ss → ss' ≡ ss ++ slot_row node n k (get_or fs k other).list ∷ [] → ps' ≡ ps ++ place_row m (get_or fs k other).list
+    → k < length fs → n ≡ length ps → m ≡ length ss → ss' ≡ ss ++ slot_row node n k (get_or fs k other).1.list ∷ [] → ps' ≡ ps ++ place_row m (get_or fs k other).1.list
     → IsMaking s₀ ss' p₀ ps' node (map is_list fs) (k + 1)
 making_more s₀ ss ss' p₀ ps ps' node fs other k n m w lt en em es ep =
     let bs = map is_list fs in
-    let b = (get_or fs k other).list in
+    let b = (get_or fs k other).1.list in
     let row = slot_row node (length ps) k b in
     let within : k < length bs = let e = length-map fs is_list in omega arith in
     let here : get_or bs k b ≡ b = get_or-map is_list fs k other b lt in
@@ -78,10 +78,10 @@ making_places s₀ ss p₀ ps node bs k m le =
 
 lists_told : (defs : List FieldDef) → map is_list defs ≡ map (λ (f : Field). f.list) (map row_of defs)
 lists_told [] = refl
-lists_told (f ∷ fs) = ap (λ z. f.list ∷ z) (lists_told fs)
+lists_told (f ∷ fs) = ap (λ z. is_list f ∷ z) (lists_told fs)
 
 -- all of a new node
-pub made : (u : Rows) (t : Table) (spare kind node base first place : ℕ) (defs : List FieldDef) (nodes : List Node) (slots : List SlotRow) (places : List PlaceRow) → table_of u spare ≡ t
+pub made : (u : Rows) (t : Table) (spare : ℕ) (kind : Kind) (node base first place : ℕ) (defs : List FieldDef) (nodes : List Node) (slots : List SlotRow) (places : List PlaceRow) → table_of u spare ≡ t
     → map row_of defs ≡ slots_at kind → node ≡ length u.nodes → base ≡ length u.slots → first ≡ length u.slots → place ≡ length u.places → nodes ≡ u.nodes ++ new_node kind base ∷ []
     → slots ≡ u.slots ++ slot_rows node place 0 (map is_list defs) → places ≡ u.places ++ place_rows first (map is_list defs)
     → table_of (rows_of nodes slots places) (spare - 1) ≡ table_of (made_rows t.rows kind) (t.spare - 1)

@@ -1,6 +1,7 @@
 -- The changes of the forest, as its methods say them.
 use Rattle.std.proofs.Common.{◌≡◌, ⊎_elim, sym, ◌∙◌, ap, subst, refl, ℕ, ◌-◌, ◌<◌, ◌≤◌, ◌^◌, Bool, true, false, List, [], ◌∷◌, length, Option, Some, None, slice_get, if◌then◌else◌, arith, length-append}
 use Rattle.std.proofs.lemmas.Option.{slice_get_within}
+use Rattle.type_defs.specs.declared.kind.Kind.{Kind}
 use Rattle.node_arena.specs.declared.links.Node.{Node}
 use Rattle.node_arena.specs.declared.links.PlaceRow.{PlaceRow}
 use Rattle.node_arena.specs.declared.links.SlotRow.{SlotRow}
@@ -150,7 +151,7 @@ put_case t u w A p j a v h m d e =
     ends_as w (seated_rows (emptied_rows t.rows p) p j) (put_of F p j) A.spare e' n
 
 -- New nodes.
-pub make_case : (t u : Table) (A : Linked) (kind : ℕ) → IsTable t.rows → Shows t A → length A.forest.nodes < 2 ^ 22 → length (make_of A.forest kind).places ≤ 2 ^ 26
+pub make_case : (t u : Table) (A : Linked) (kind : Kind) → IsTable t.rows → Shows t A → length A.forest.nodes < 2 ^ 22 → length (make_of A.forest kind).places ≤ 2 ^ 26
     → u ≡ table_of (made_rows t.rows kind) (t.spare - 1) → Ends_as u (linked_of (make_of A.forest kind) (A.spare - 1))
 make_case t u A kind a v few places e =
     let nodes : length t.rows.nodes < 2 ^ 22 = let d = ap (λ (z : Linked). length z.forest.nodes) v in omega arith in

@@ -1,6 +1,7 @@
 -- New nodes behind a mark, and roots that stay roots.
 use Rattle.std.proofs.Common.{◌≡◌, sym, ◌∙◌, ap, subst, refl, ℕ, zero, suc, All, ◌<◌, ◌≤◌, List, [], ◌∷◌, ◌++◌, length, Option, Some, None, slice_get, arith, length-append}
 use Rattle.std.proofs.lemmas.List.Elements.{All-append}
+use Rattle.type_defs.specs.declared.kind.Kind.{Kind}
 use Rattle.type_defs.specs.Fields.{lists_at}
 use Rattle.node_arena.specs.declared.copies.Mark.{Mark}
 use Rattle.node_arena.specs.declared.links.Node.{Node}
@@ -16,7 +17,7 @@ use Rattle.node_arena.proofs.Fronts.{take_within}
 pub root_same : (F G : Forest) (j : ℕ) → G.nodes ≡ F.nodes → IsRoot F j → IsRoot G j
 root_same F G j e r = subst (λ z. IsRoot_row (slice_get z j)) (sym e) r
 
-root_made : (F : Forest) (kind j : ℕ) → j < length F.nodes → IsRoot F j → IsRoot (make_of F kind) j
+root_made : (F : Forest) (kind : Kind) (j : ℕ) → j < length F.nodes → IsRoot F j → IsRoot (make_of F kind) j
 root_made F kind j lt r =
     let m = item_at F.nodes j lt in
     subst IsRoot_row (sym (push_old F.nodes j (new_node kind (length F.slots)) m.0 m.1)) (subst IsRoot_row m.1 r)
@@ -30,7 +31,7 @@ root_new A B node j e n =
 row_copied : (A : Store) (node : ℕ) → IsCopied A (copied_in A node) (length A.forest.nodes)
 row_copied A node =
     let F = A.forest in
-    let kind : ℕ = kind_at F node in
+    let kind : Kind = kind_at F node in
     let nodes = length-append F.nodes (new_node kind (length F.slots) ∷ []) in
     let places = length-append F.places (new_places (length F.slots) (lists_at kind)) in
     record {

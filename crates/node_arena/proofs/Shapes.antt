@@ -1,5 +1,6 @@
 -- The form of nodes and slots, which no change of places or seats touches.
 use Rattle.std.proofs.Common.{◌≡◌, sym, ◌∙◌, ap, subst, refl, ℕ, ◌+◌, ◌<◌, Bool, List, length, Option}
+use Rattle.type_defs.specs.declared.kind.Kind.{Kind}
 use Rattle.type_defs.specs.Fields.{lists_at}
 use Rattle.node_arena.specs.declared.links.Node.{Node}
 use Rattle.node_arena.specs.Rows.{edit, standing_at}
@@ -11,7 +12,7 @@ abbrev form_of : Slot → ℕ × (ℕ × Bool)
 form_of n = (n.node, (n.index, n.list))
 
 -- all of a node but where it stands
-abbrev root_of : Node → ℕ × ℕ
+abbrev root_of : Node → Kind × ℕ
 root_of m = (m.kind, m.base)
 
 based_from : (nodes : List Node) (s : ℕ) (a b : ℕ × (ℕ × Bool)) → a ≡ b → HasBase nodes s b.0 b.1.0 → HasBase nodes s a.0 a.1.0
@@ -29,10 +30,10 @@ shape_kids nodes slots s f w = record {
       based_from nodes i (form_of n) (form_of b.0) b.2 (w.based i b.0 b.1);
 }
 
-slotted_from : (slots : List Slot) (j k : ℕ) (a b : ℕ × ℕ) → a ≡ b → HasSlot slots j b.1 b.0 k → HasSlot slots j a.1 a.0 k
+slotted_from : (slots : List Slot) (j k : ℕ) (a b : Kind × ℕ) → a ≡ b → HasSlot slots j b.1 b.0 k → HasSlot slots j a.1 a.0 k
 slotted_from slots j k a b e w = subst (λ z. HasSlot slots j z.1 z.0 k) (sym e) w
 
-within_from : (k : ℕ) (a b : ℕ × ℕ) → a ≡ b → k < length (lists_at a.0) → k < length (lists_at b.0)
+within_from : (k : ℕ) (a b : Kind × ℕ) → a ≡ b → k < length (lists_at a.0) → k < length (lists_at b.0)
 within_from k a b e h = subst (λ z. k < length (lists_at z.0)) e h
 
 -- a node gets another place

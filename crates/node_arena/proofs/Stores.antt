@@ -7,6 +7,7 @@ use Rattle.tree_core.specs.declared.scalars.Scalar.{Scalar}
 use Rattle.tree_core.specs.declared.scalars.Scalar.TheVariants.{Null}
 use Rattle.tree_core.specs.declared.comment.Comment.{Comment}
 use Rattle.tree_core.specs.declared.tree.PlaceName.{PlaceName}
+use Rattle.type_defs.specs.declared.kind.Kind.{Kind}
 use Rattle.type_defs.specs.Fields.{lists_at, scalar_count}
 use Rattle.type_defs.proofs.FieldTable.{scalar_count_few}
 use Rattle.node_arena.specs.declared.payload.Facts.{Facts}
@@ -28,7 +29,7 @@ new_places_length s [] = refl
 new_places_length s (true ∷ bs) = new_places_length (suc s) bs ∙ sym (count_more true bs ∙ zero-add (count_by not bs))
 new_places_length s (false ∷ bs) = let e = new_places_length (suc s) bs in let h = count_more false bs in omega arith
 
-pub places_made : (F : Forest) (kind : ℕ) → length (make_of F kind).places ≡ length F.places + single_count kind
+pub places_made : (F : Forest) (kind : Kind) → length (make_of F kind).places ≡ length F.places + single_count kind
 places_made F kind =
     let a = length-append F.places (new_places (length F.slots) (lists_at kind)) in
     let b = new_places_length (length F.slots) (lists_at kind) in
@@ -38,7 +39,7 @@ length_from : (xs : List Scalar) (first count : ℕ) → first + count ≤ lengt
 length_from xs first count h = let a = length-take (first + count - first) (drop first xs) in let b = length-drop first xs in omega arith
 
 -- A new node.
-store_row : (a : Linked) (p : Said) (kind n s : ℕ) (new : Facts) (more : List Scalar) → IsStore a p → n ≤ s → new.first_scalar ≡ length p.scalars → length more ≡ scalar_count kind → IsStore (linked_of (make_of a.forest kind) n) (record { facts = p.facts ++ new ∷ []; scalars = p.scalars ++ more; names = p.names ++ replicate (single_count kind) None; spare = s })
+store_row : (a : Linked) (p : Said) (kind : Kind) (n s : ℕ) (new : Facts) (more : List Scalar) → IsStore a p → n ≤ s → new.first_scalar ≡ length p.scalars → length more ≡ scalar_count kind → IsStore (linked_of (make_of a.forest kind) n) (record { facts = p.facts ++ new ∷ []; scalars = p.scalars ++ more; names = p.names ++ replicate (single_count kind) None; spare = s })
 store_row a p kind n s new more w le first nulls =
     let F = a.forest in
     let facts = length-append p.facts (new ∷ []) in
@@ -75,7 +76,7 @@ store_row a p kind n s new more w le first nulls =
       spare = le;
     }
 
-store_with : (a : Linked) (p : Said) (kind n s : ℕ) → IsStore a p → n ≤ s → IsStore (linked_of (make_of a.forest kind) n) (record { facts = p.facts ++ no_facts (length p.scalars) ∷ []; scalars = p.scalars ++ replicate (scalar_count kind) Null; names = p.names ++ replicate (single_count kind) None; spare = s })
+store_with : (a : Linked) (p : Said) (kind : Kind) (n s : ℕ) → IsStore a p → n ≤ s → IsStore (linked_of (make_of a.forest kind) n) (record { facts = p.facts ++ no_facts (length p.scalars) ∷ []; scalars = p.scalars ++ replicate (scalar_count kind) Null; names = p.names ++ replicate (single_count kind) None; spare = s })
 store_with a p kind n s w le = store_row a p kind n s (no_facts (length p.scalars)) (replicate (scalar_count kind) Null) w le refl (length-replicate (scalar_count kind) Null)
 
 -- the scalars of a node are among all
@@ -88,7 +89,7 @@ scalars_within a p j w lt =
     (subst (λ z. f.0.first_scalar + scalar_count (kind_in z) ≤ length p.scalars) (sym m.1) (w.scalars j m.0.kind f.0 (mapped kind_of a.forest.nodes j m.0 m.1) f.1))
 
 -- a new node that says what another says
-pub store_copied : (a b : Linked) (p q : Said) (j kind scalars places : ℕ) → IsStore a p → j < length a.forest.nodes → 0 < a.spare → kind ≡ kind_at a.forest j → scalars ≡ scalar_count kind → places ≡ single_count kind → q ≡ with_copy p j scalars places → b ≡ linked_of (make_of a.forest kind) (a.spare - 1) → IsStore b q
+pub store_copied : (a b : Linked) (p q : Said) (j : ℕ) (kind : Kind) (scalars places : ℕ) → IsStore a p → j < length a.forest.nodes → 0 < a.spare → kind ≡ kind_at a.forest j → scalars ≡ scalar_count kind → places ≡ single_count kind → q ≡ with_copy p j scalars places → b ≡ linked_of (make_of a.forest kind) (a.spare - 1) → IsStore b q
 store_copied a b p q j kind scalars places w lt some k e f g h =
     let had = w.spare in
     let within : first_in (slice_get p.facts j) + scalar_count kind ≤ length p.scalars = subst (λ z. first_in (slice_get p.facts j) + scalar_count z ≤ length p.scalars) (sym k) (scalars_within a p j w lt) in
@@ -114,7 +115,7 @@ store_room a b p q w e h le =
       spare = le;
     }
 
-pub store_made : (a b c : Linked) (p q r : Said) (kind scalars places : ℕ) → IsStore a p → b ≡ linked_of a.forest (max a.spare 1) → q ≡ said_of p.facts p.scalars p.names q.spare → b.spare ≤ q.spare
+pub store_made : (a b c : Linked) (p q r : Said) (kind : Kind) (scalars places : ℕ) → IsStore a p → b ≡ linked_of a.forest (max a.spare 1) → q ≡ said_of p.facts p.scalars p.names q.spare → b.spare ≤ q.spare
     → scalars ≡ scalar_count kind → places ≡ single_count kind → c ≡ linked_of (make_of b.forest kind) (b.spare - 1) → r ≡ with_node q scalars places → IsStore c r
 store_made a b c p q r kind scalars places w eb eq le es ep ec er =
     let v = store_room a b p q w (ap (λ (z : Linked). z.forest) eb) eq le in

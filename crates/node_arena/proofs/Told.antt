@@ -1,9 +1,10 @@
 -- What the reads tell.
-use Rattle.std.proofs.Common.{◌≡◌, inl, inr, ⊎_elim, sym, ◌∙◌, ap, subst, refl, ℕ, ◌+◌, ◌<◌, ◌≤◌, ◌^◌, Bool, true, false, List, [], ◌∷◌, ◌++◌, length, Option, Some, None, IfSome, slice_get, ◌==◌, nat_lt, if◌then◌else◌, arith}
+use Rattle.std.proofs.Common.{◌≡◌, ◌≢◌, inl, inr, ⊎_elim, sym, ◌∙◌, ap, subst, refl, ℕ, ◌+◌, ◌<◌, ◌≤◌, ◌^◌, Bool, true, false, List, [], ◌∷◌, ◌++◌, length, Option, Some, None, IfSome, slice_get, ◌==◌, nat_lt, if◌then◌else◌, arith}
 use Rattle.std.proofs.lemmas.Option.{slice_get_within}
-use Rattle.std.proofs.lemmas.Bool.{lt-ltb, le-ltb}
+use Rattle.std.proofs.lemmas.Bool.{cases_lt, lt-ltb, le-ltb}
 use Rattle.std.proofs.lemmas.Bool.Decides.{eqb_tells}
 use Rattle.std.proofs.lemmas.List.{length-map}
+use Rattle.type_defs.specs.declared.kind.Kind.{Kind}
 use Rattle.type_defs.specs.Fields.{Field, slots_at, lists_at, is_list_at, list_some}
 use Rattle.node_arena.specs.declared.links.Node.{Node}
 use Rattle.node_arena.specs.declared.links.SlotRow.{SlotRow}
@@ -187,7 +188,7 @@ state_some t A p s r k a v g e h =
     ap (λ (z : SlotRow). if z.list then Listed else Single) (sym n.2) ∙ (ap slot_state (sym n.1) ∙ ap (state_in A.forest p) (sym e ∙ slot_read t A p r v g))
 
 -- The slots of a node.
-slots_of : (kind k n : ℕ) → n ≡ length (slots_at kind) → k < n → k < length (lists_at kind)
+slots_of : (kind : Kind) (k n : ℕ) → n ≡ length (slots_at kind) → k < n → k < length (lists_at kind)
 slots_of kind k n e h = let d = length-map (slots_at kind) (λ (f : Field). f.list) in omega arith
 
 pub slot_within : (t : Table) (j k n : ℕ) (m : Node) → IsTable t.rows → slice_get t.rows.nodes j ≡ Some m → n ≡ length (slots_at m.kind) → k < n → m.base + k < length t.rows.slots
@@ -229,6 +230,41 @@ first_some t A j k n m r a v g e h d =
     ∙ (ap (λ o. head_or (kids_in o) None) (sym s.1)
     ∙ (sym (if_yes (nat_lt k (length (lists_at m.kind))) (head_or (kids_at A.forest (m.base + k)) None) None (lt-ltb k (length (lists_at m.kind)) (slots_of m.kind k n e h))) ∙ first_of t A j k m v g))
 
+-- a slot behind all, or another node's, is none of the node's
+pub first_past : (t : Table) (A : Linked) (j k : ℕ) (m : Node) → IsTable t.rows → Shows t A → slice_get t.rows.nodes j ≡ Some m → length t.rows.slots ≤ m.base + k → None ≡ first_at A.forest j k
+first_past t A j k m a v g h =
+    ⊎_elim (λ lt. let w = slot_within t j k (length (slots_at m.kind)) m a g refl lt in absurd (omega arith)) (λ le. first_none t A j k (length (slots_at m.kind)) m v g refl le)
+    (cases_lt k (length (slots_at m.kind)))
+
+row_node : Option SlotRow → ℕ
+row_node None = 0
+row_node (Some r) = r.node
+
+pub first_other : (t : Table) (A : Linked) (j k : ℕ) (m : Node) (r : SlotRow) → IsTable t.rows → Shows t A → slice_get t.rows.nodes j ≡ Some m → slice_get t.rows.slots (m.base + k) ≡ Some r → r.node ≢ j
+    → None ≡ first_at A.forest j k
+unfolding row_node
+first_other t A j k m r a v g d other =
+    ⊎_elim
+    (λ lt.
+    let w = a.lawful.shape.slotted j k m g (slots_of m.kind k (length (slots_at m.kind)) refl lt) in
+    absurd (other (ap row_node (sym d ∙ slot_row t.rows (m.base + k) w.slot a w.is) ∙ w.node)))
+    (λ le. first_none t A j k (length (slots_at m.kind)) m v g refl le)
+    (cases_lt k (length (slots_at m.kind)))
+
+-- a slot of the node's own
+pub first_own : (t : Table) (A : Linked) (j k : ℕ) (m : Node) (r : SlotRow) → IsTable t.rows → Shows t A → slice_get t.rows.nodes j ≡ Some m → slice_get t.rows.slots (m.base + k) ≡ Some r → r.node ≡ j
+    → r.first ≡ first_at A.forest j k
+first_own t A j k m r a v g d own =
+    let n = slot_back t.rows (m.base + k) r a d in
+    let w = a.lawful.shape.based (m.base + k) n.0 n.1 in
+    let same : Some w.row ≡ Some m = sym w.is ∙ (ap (slice_get t.rows.nodes) (ap (λ (z : SlotRow). z.node) n.2 ∙ own) ∙ g) in
+    let base : w.row.base ≡ m.base = ap base_in same in
+    let number = w.number in
+    let index : n.0.index ≡ k = omega arith in
+    let long = length-map (slots_at m.kind) (λ (f : Field). f.list) in
+    let within : k < length (lists_at m.kind) = subst (λ z. z < length (lists_at m.kind)) index (subst (λ z. n.0.index < length (lists_at z)) (ap kind_in same) w.within) in
+    first_some t A j k (length (slots_at m.kind)) m r a v g refl (omega arith) d
+
 pub first_within : (t : Table) (A : Linked) (s : ℕ) (r : SlotRow) → IsTable t.rows → Shows t A → slice_get t.rows.slots s ≡ Some r → IfSome r.first (λ p. p < length A.forest.places)
 first_within t A s r a v g =
     let n = slot_back t.rows s r a g in
@@ -242,7 +278,7 @@ first_within t A s r a v g =
     places_are t A p v (omega arith))
 
 -- A list slot.
-listed_slot : (kind k : ℕ) (o : Option Field) → slice_get (slots_at kind) k ≡ o → list_some o ≡ true → k < length (slots_at kind)
+listed_slot : (kind : Kind) (k : ℕ) (o : Option Field) → slice_get (slots_at kind) k ≡ o → list_some o ≡ true → k < length (slots_at kind)
 listed_slot kind k None g e = absurd (cc)
 listed_slot kind k (Some f) g e = slice_get_within (slots_at kind) k f g
 

@@ -1,5 +1,6 @@
 -- What a table of links stands for: nodes with slots, slots with lists of places, places with nodes.
 use Rattle.std.specs.Prelude.{◌≡◌, ℕ, zero, suc, ◌+◌, ◌*◌, ◌<◌, ◌≤◌, ◌^◌, Bool, true, false, List, [], ◌∷◌, ◌++◌, length, map, Option, Some, None, slice_get, take, if◌then◌else◌}
+use Rattle.type_defs.specs.declared.kind.Kind.{Kind}
 use Rattle.type_defs.specs.Fields.{lists_at, is_list_at}
 use Rattle.node_arena.specs.declared.links.Node.{Node}
 use Rattle.node_arena.specs.declared.links.SlotRow.{SlotRow}
@@ -108,7 +109,7 @@ pub data Ends (F : Forest) : ℕ → Type 0 where
   ends : {i : ℕ} → ((x j : ℕ) → IsBelow F i x j → Ends F j) → Ends F i
 
 -- The laws of a forest. A node's slots: as many as its kind has, each with its number and form.
-pub record HasSlot (slots : List Slot) (j base kind k : ℕ) : Type 0 where
+pub record HasSlot (slots : List Slot) (j base : ℕ) (kind : Kind) (k : ℕ) : Type 0 where
   pub slot : Slot
   pub is : slice_get slots (base + k) ≡ Some slot
   pub node : slot.node ≡ j
@@ -300,7 +301,7 @@ new_places slot [] = []
 new_places slot (b ∷ bs) = new_place slot b ++ new_places (suc slot) bs
 
 -- a new node of a kind, a root: its lists are empty, and each other slot has one place, empty
-abbrev pub make_of : Forest → ℕ → Forest
+abbrev pub make_of : Forest → Kind → Forest
 make_of F kind = record {
   nodes = F.nodes ++ new_node kind (length F.slots) ∷ [];
   slots = F.slots ++ new_slots (length F.nodes) (length F.places) 0 (lists_at kind);

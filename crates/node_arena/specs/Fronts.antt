@@ -1,5 +1,6 @@
 -- The first rows of an arena, which what is made behind them leaves.
 use Rattle.std.specs.Prelude.{◌≡◌, ℕ, ◌+◌, ◌*◌, ◌<◌, ◌≤◌, length, map, take, Option, Some, None, slice_get}
+use Rattle.type_defs.specs.declared.kind.Kind.{Kind}
 use Rattle.type_defs.specs.Fields.{scalar_count}
 use Rattle.node_arena.specs.declared.copies.Mark.{Mark}
 use Rattle.node_arena.specs.declared.payload.Facts.{Facts}
@@ -30,7 +31,7 @@ pub record IsFront (m : Mark) (A : Store) : Type 0 where
   pub facts : length A.facts ≡ m.nodes
   pub names : length A.names ≡ m.places
   pub long : length A.scalars ≡ m.scalars
-  pub scalars : (j kind : ℕ) (f : Facts) → slice_get (map kind_of A.forest.nodes) j ≡ Some kind → slice_get A.facts j ≡ Some f → f.first_scalar + scalar_count kind ≤ length A.scalars
+  pub scalars : (j : ℕ) (kind : Kind) (f : Facts) → slice_get (map kind_of A.forest.nodes) j ≡ Some kind → slice_get A.facts j ≡ Some f → f.first_scalar + scalar_count kind ≤ length A.scalars
   pub few : length A.scalars ≤ 4 * length A.forest.nodes
 
 -- the node is a root, and holds none of so many first places

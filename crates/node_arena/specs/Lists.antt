@@ -1,9 +1,9 @@
 -- Lists of numbers.
 use Rattle.std.specs.Prelude.{◌≡◌, ◌⊎◌, ℕ, Bool, List, [], ◌∷◌, Option, Some, ◌==◌, if◌then◌else◌}
-use Rattle.type_defs.specs.declared.field_defs.FieldDef.{FieldDef}
+use Rattle.type_defs.specs.Fields.{FieldDef}
 
 abbrev pub is_list : FieldDef → Bool
-is_list f = f.list
+is_list f = f.1.list
 
 -- the number is in the list
 abbrev pub Among : ℕ → List ℕ → Type 0

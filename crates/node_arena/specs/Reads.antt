@@ -1,5 +1,7 @@
 -- What the reads tell of a forest.
 use Rattle.std.specs.Prelude.{ℕ, ◌+◌, List, [], ◌∷◌, length, Option, Some, None, slice_get, ◌==◌, nat_lt, if◌then◌else◌}
+use Rattle.type_defs.specs.declared.kind.Kind.{Kind}
+use Rattle.type_defs.specs.declared.kind.Kind.TheVariants.{EmptyStatement}
 use Rattle.type_defs.specs.Fields.{lists_at}
 use Rattle.node_arena.specs.declared.links.Node.{Node}
 use Rattle.node_arena.specs.declared.state.PlaceState.{PlaceState}
@@ -7,12 +9,12 @@ use Rattle.node_arena.specs.declared.state.PlaceState.TheVariants.{Root, Single,
 use Rattle.node_arena.specs.Lists.{head_or}
 use Rattle.node_arena.specs.Forest.{Forest, Slot, slot_at}
 
-abbrev pub kind_in : Option Node → ℕ
-kind_in None = 0
+abbrev pub kind_in : Option Node → Kind
+kind_in None = EmptyStatement
 kind_in (Some m) = m.kind
 
--- the kind of a node
-abbrev pub kind_at : Forest → ℕ → ℕ
+-- the kind of a node that is there
+abbrev pub kind_at : Forest → ℕ → Kind
 kind_at F j = kind_in (slice_get F.nodes j)
 
 abbrev pub base_in : Option Node → ℕ

@@ -5,6 +5,7 @@ use Rattle.node_arena.specs.declared.links.SlotRow.{SlotRow}
 use Rattle.node_arena.specs.declared.links.PlaceRow.{PlaceRow}
 use Rattle.node_arena.specs.declared.links.Link.{Link}
 use Rattle.node_arena.specs.declared.links.Link.TheVariants as link
+use Rattle.type_defs.specs.declared.kind.Kind.{Kind}
 use Rattle.type_defs.specs.Fields.{lists_at}
 
 pub record Rows : Type 0 where
@@ -116,11 +117,11 @@ abbrev pub place_rows : ℕ → List Bool → List PlaceRow
 place_rows slot [] = []
 place_rows slot (b ∷ bs) = place_row slot b ++ place_rows (suc slot) bs
 
-abbrev pub new_node : ℕ → ℕ → Node
+abbrev pub new_node : Kind → ℕ → Node
 new_node kind base = record { kind = kind; at = None; base = base }
 
 -- a new node of a kind with its slots, a root
-abbrev pub made_rows : Rows → ℕ → Rows
+abbrev pub made_rows : Rows → Kind → Rows
 made_rows t kind = record {
   nodes = t.nodes ++ new_node kind (length t.slots) ∷ [];
   slots = t.slots ++ slot_rows (length t.nodes) (length t.places) 0 (lists_at kind);

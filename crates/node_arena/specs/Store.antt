@@ -4,6 +4,7 @@ use Rattle.tree_core.specs.declared.scalars.Scalar.{Scalar}
 use Rattle.tree_core.specs.declared.scalars.Scalar.TheVariants.{Null}
 use Rattle.tree_core.specs.declared.comment.Comment.{Comment}
 use Rattle.tree_core.specs.declared.tree.PlaceName.{PlaceName}
+use Rattle.type_defs.specs.declared.kind.Kind.{Kind}
 use Rattle.type_defs.specs.Fields.{lists_at, scalar_count}
 use Rattle.node_arena.specs.declared.links.Node.{Node}
 use Rattle.node_arena.specs.declared.payload.Facts.{Facts}
@@ -24,22 +25,22 @@ pub record Store : Type 0 where
 abbrev pub store_of : Linked → Said → Store
 store_of a p = record { forest = a.forest; facts = p.facts; scalars = p.scalars; names = p.names; spare = a.spare }
 
-abbrev pub kind_of : Node → ℕ
+abbrev pub kind_of : Node → Kind
 kind_of m = m.kind
 
 pub record IsStore (a : Linked) (p : Said) : Type 0 where
   pub facts : length p.facts ≡ length a.forest.nodes
   pub names : length p.names ≡ length a.forest.places
-  pub scalars : (j kind : ℕ) (f : Facts) → slice_get (map kind_of a.forest.nodes) j ≡ Some kind → slice_get p.facts j ≡ Some f → f.first_scalar + scalar_count kind ≤ length p.scalars
+  pub scalars : (j : ℕ) (kind : Kind) (f : Facts) → slice_get (map kind_of a.forest.nodes) j ≡ Some kind → slice_get p.facts j ≡ Some f → f.first_scalar + scalar_count kind ≤ length p.scalars
   pub few : length p.scalars ≤ 4 * length a.forest.nodes
   pub spare : a.spare ≤ p.spare
 
 -- how many places a new node of a kind has
-abbrev pub single_count : ℕ → ℕ
+abbrev pub single_count : Kind → ℕ
 single_count kind = count_by not (lists_at kind)
 
 -- a new node of a kind that says nothing yet
-abbrev pub make_in : Store → ℕ → Store
+abbrev pub make_in : Store → Kind → Store
 make_in A kind = record {
   forest = make_of A.forest kind;
   facts = A.facts ++ no_facts (length A.scalars) ∷ [];
@@ -49,7 +50,7 @@ make_in A kind = record {
 }
 
 -- a new node of a node's kind that says what it says
-abbrev pub copied_as : Store → ℕ → ℕ → Store
+abbrev pub copied_as : Store → ℕ → Kind → Store
 copied_as A node kind = record {
   forest = make_of A.forest kind;
   facts = A.facts ++ copied_facts (length A.scalars) (slice_get A.facts node) ∷ [];
@@ -62,7 +63,7 @@ abbrev pub copied_in : Store → ℕ → Store
 copied_in A node = copied_as A node (kind_at A.forest node)
 
 -- the nodes or the places would be too many
-abbrev pub IsFullFor : Store → ℕ → Type 0
+abbrev pub IsFullFor : Store → Kind → Type 0
 IsFullFor A kind = (2 ^ 22 ≤ length A.forest.nodes) ⊎ (2 ^ 26 < length A.forest.places + single_count kind)
 
 -- another forest of the same nodes and places

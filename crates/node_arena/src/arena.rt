@@ -19,13 +19,13 @@ use std::alloc::Global;
 use std::marker::Model;
 use std::sync::ledger::Ledger;
 use tree_core::{Comments, PlaceName, Scalar};
-use type_defs::{FieldDef, scalar_count, slots};
+use type_defs::{FieldDef, Kind, scalar_count, slots};
 
 /// The most nodes of an arena.
-pub const MOST_NODES: usize = 4194304;
+pub const MAX_NODES: usize = 4194304;
 
 /// The most places of an arena.
-pub const MOST_PLACES: usize = 67108864;
+pub const MAX_PLACES: usize = 67108864;
 
 /// Nodes and places by index. A node has slots with places, and stands in at most one place; no
 /// node is held by itself. Ids are numbers from 0 in the order in which nodes and places are made.
@@ -48,11 +48,11 @@ impl Model for Arena {
 fn count_singles(fields: &[FieldDef]) -> usize
     ensures { result ≡ count_by not (map is_list fields.now) }
 {
-    fields.iter().filter(|field| !field.list).count()
+    fields.iter().filter(|field| !field.1.list).count()
 }
 
 /// How many places a new node of the kind has.
-pub(crate) fn singles(kind: u8) -> usize
+pub(crate) fn singles(kind: Kind) -> usize
     ensures count { result ≡ single_count kind }
     ensures few { result ≤ 4 }
 {
@@ -108,7 +108,8 @@ impl Arena {
 
     /// A new node of a kind, a root: its lists are empty, its other places too, its scalars null.
     /// It may go into each place that was there before.
-    pub fn make(&mut self, kind: u8) -> Result<NodeId, ArenaFault>
+    #[tactic(auto, using(crate::proofs::Stores::places_made))]
+    pub fn make(&mut self, kind: Kind) -> Result<NodeId, ArenaFault>
         ensures number { IfOk result (λ j. j ≡ length self.old.forest.nodes) }
         ensures ok { OnOk result (self.new ≡ make_in self.old kind) }
         ensures err { OnErr result (self.new ≡ self.old) }
@@ -118,10 +119,10 @@ impl Arena {
         ensures apart { IfOk result (λ j. MayGoBefore self.new.forest (length self.old.forest.places) j) }
     {
         let places = singles(kind);
-        if self.forest.nodes() >= MOST_NODES {
+        if self.forest.nodes() >= MAX_NODES {
             return Err(ArenaFault::Full);
         }
-        if self.forest.places() + places > MOST_PLACES {
+        if self.forest.places() + places > MAX_PLACES {
             return Err(ArenaFault::Full);
         }
         match room(&mut self.forest, &mut self.payload, 1) {
@@ -172,7 +173,7 @@ impl Arena {
         ensures memory { result ≡ Err ArenaFault.NoMemory → self.old.spare ≡ 0 }
         ensures steps { steps.new ≤ steps.old + 4 }
     {
-        if self.forest.places() >= MOST_PLACES {
+        if self.forest.places() >= MAX_PLACES {
             return Err(ArenaFault::Full);
         }
         let list = self.forest.list_slot(owner.number(), slot);
@@ -205,7 +206,7 @@ impl Arena {
         let Some(list) = self.forest.list_at(place.number()) else {
             return Err(ArenaFault::NotInList);
         };
-        if self.forest.places() >= MOST_PLACES {
+        if self.forest.places() >= MAX_PLACES {
             return Err(ArenaFault::Full);
         }
         match room(&mut self.forest, &mut self.payload, 1) {
@@ -239,7 +240,7 @@ impl Arena {
         let Some(list) = self.forest.list_at(place.number()) else {
             return Err(ArenaFault::NotInList);
         };
-        if self.forest.places() >= MOST_PLACES {
+        if self.forest.places() >= MAX_PLACES {
             return Err(ArenaFault::Full);
         }
         match room(&mut self.forest, &mut self.payload, 1) {
@@ -374,8 +375,8 @@ impl Arena {
         self.forest.slot_of(place.number())
     }
 
-    /// The number of a node's kind, 1 to 73.
-    pub fn kind(&self, node: NodeId) -> u8
+    /// The kind of a node.
+    pub fn kind(&self, node: NodeId) -> Kind
         requires at { node < length self.now.forest.nodes }
         ensures { result ≡ kind_at self.now.forest node }
     {

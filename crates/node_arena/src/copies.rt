@@ -8,9 +8,9 @@ ghost use Rattle.node_arena.specs.Fronts.{Grows, IsCopied, IsFront, IsGrown, IsL
 ghost use Rattle.node_arena.specs.Reads.{base_at, kind_at};
 ghost use Rattle.node_arena.specs.Store.{copied_in, reserved};
 
-use crate::arena::{Arena, MOST_NODES, MOST_PLACES, singles};
+use crate::arena::{Arena, MAX_NODES, MAX_PLACES, singles};
 use crate::ids::{NodeId, PlaceId};
-use crate::preorder::MOST_SLOTS;
+use crate::preorder::MAX_SLOTS;
 use crate::state::ArenaFault;
 use crate::steps::Steps;
 use sqlite_items::Items;
@@ -61,7 +61,7 @@ impl Arena {
     }
 
     /// A copy of a node without what it holds, a root. The memory that the mark tells is left.
-    #[tactic(auto, using(crate::proofs::Stores::store_copied, crate::proofs::Stores::scalars_within, crate::proofs::Stores::few_scalars))]
+    #[tactic(auto, using(crate::proofs::Stores::places_made, crate::proofs::Stores::store_copied, crate::proofs::Stores::scalars_within, crate::proofs::Stores::few_scalars))]
     fn copy_row(&mut self, node: NodeId, mark: Mark) -> Result<NodeId, ArenaFault>
         requires at { node < length self.old.forest.nodes }
         requires spare { mark.spare ≤ self.old.spare }
@@ -73,10 +73,10 @@ impl Arena {
     {
         let kind = self.forest.kind(node.number());
         let places = singles(kind);
-        if self.forest.nodes() >= MOST_NODES {
+        if self.forest.nodes() >= MAX_NODES {
             return Err(ArenaFault::Full);
         }
-        if self.forest.places() + places > MOST_PLACES {
+        if self.forest.places() + places > MAX_PLACES {
             return Err(ArenaFault::Full);
         }
         if self.forest.spare() <= mark.spare {
@@ -194,7 +194,7 @@ impl Arena {
         ensures front { front mark self.new ≡ front mark self.old }
         ensures spare { mark.spare ≤ self.new.spare }
     {
-        for slot in 0..MOST_SLOTS {
+        for slot in 0..MAX_SLOTS {
             self.copy_slot(node, copy, slot, mark, steps)?;
         }
         Ok(())
@@ -396,7 +396,7 @@ impl Arena {
             let size = self.size(node);
             most_nodes += size.nodes as usize;
             most_places += size.places as usize;
-            if most_nodes > MOST_NODES || most_places > MOST_PLACES {
+            if most_nodes > MAX_NODES || most_places > MAX_PLACES {
                 return Err(ArenaFault::Full);
             }
             room += size.nodes + size.listed;

@@ -13,7 +13,7 @@ use crate::steps::Steps;
 use std::alloc::{AllocError, Global};
 use std::marker::Model;
 use std::sync::ledger::Ledger;
-use type_defs::slot_count;
+use type_defs::Kind;
 
 /// Nodes with slots, slots with lists of places, and places with nodes.
 #[derive(Drop)]
@@ -63,7 +63,7 @@ impl LinkedForest {
     }
 
     /// A new node of a kind, a root: its lists are empty, and each other slot has one place, empty.
-    pub fn make(&mut self, kind: u8) -> u32
+    pub fn make(&mut self, kind: Kind) -> u32
         requires spare { 0 < self.old.spare }
         requires nodes { length self.old.forest.nodes < 2 ^ 22 }
         requires places { length (make_of self.old.forest kind).places ≤ 2 ^ 26 }
@@ -224,7 +224,7 @@ impl LinkedForest {
     }
 
     #[tactic(auto, using(crate::proofs::Told::node_row, crate::proofs::Told::kind_told))]
-    pub fn kind(&self, node: u32) -> u8
+    pub fn kind(&self, node: u32) -> Kind
         requires at { node < length self.now.forest.nodes }
         ensures { result ≡ kind_at self.now.forest node }
     {
@@ -330,17 +330,23 @@ impl LinkedForest {
     }
 
     /// The first place of a node's slot.
-    #[tactic(auto, using(crate::proofs::Told::node_row, crate::proofs::Told::first_none))]
+    #[tactic(auto, using(crate::proofs::Told::node_row, crate::proofs::Told::first_past, crate::proofs::Told::first_other))]
     pub fn slot_first(&self, node: u32, slot: u8) -> Option<u32>
         requires at { node < length self.now.forest.nodes }
         ensures place { result ≡ first_at self.now.forest node slot }
         ensures within { IfSome result (λ p. p < length self.now.forest.places) }
     {
         let row = self.links.node(node);
-        if slot as usize >= slot_count(row.kind) {
+        let number = row.base as usize + slot as usize;
+        if number >= self.links.slots() {
             return None;
         }
-        self.links.slot(row.base + slot as u32).first
+        // The slots of a node are neighbours, so behind its last one stands another node's.
+        let found = self.links.slot(number as u32);
+        if found.node != node {
+            return None;
+        }
+        found.first
     }
 
     /// The number of a list slot of a node.

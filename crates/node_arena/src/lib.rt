@@ -19,7 +19,7 @@ mod steps;
 #[cfg(test)]
 mod tests;
 
-pub use arena::{Arena, MOST_NODES, MOST_PLACES};
+pub use arena::{Arena, MAX_NODES, MAX_PLACES};
 pub use copies::Copies;
 pub use ids::{NodeId, PlaceId};
 pub use preorder::Size;

@@ -9,13 +9,13 @@ use crate::steps::Steps;
 use std::alloc::{AllocError, Global};
 use std::marker::Model;
 use std::sync::ledger::Ledger;
-use type_defs::{FieldDef, slots};
+use type_defs::{FieldDef, Kind, slots};
 
 /// A node: its kind, the place where it stands, and the number of the first of its slots, which are
 /// neighbours in the table.
 #[derive(Clone, Copy)]
 pub struct Node {
-    pub kind: u8,
+    pub kind: Kind,
     pub at: Option<u32>,
     pub base: u32,
 }
@@ -150,7 +150,7 @@ fn push_slots(slots: &mut Vec<SlotRow>, places: &mut Vec<PlaceRow>, node: u32, f
     ensures place_capacity { vec_capacity places.old ≤ vec_capacity places.new }
 {
     for index in 0..fields.len() {
-        push_slot(slots, places, node, index as u8, fields[index].list);
+        push_slot(slots, places, node, index as u8, fields[index].1.list);
     }
 }
 
@@ -245,7 +245,7 @@ impl Links {
 
     /// A new node of a kind, a root: its list slots are empty, and each other slot has one place,
     /// empty.
-    pub fn make(&mut self, kind: u8) -> u32
+    pub fn make(&mut self, kind: Kind) -> u32
         requires spare { 0 < self.old.spare }
         requires few_nodes { length self.old.rows.nodes < 2 ^ 31 }
         requires few_slots { length self.old.rows.slots < 2 ^ 31 }

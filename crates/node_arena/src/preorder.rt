@@ -10,7 +10,7 @@ use crate::ids::{NodeId, PlaceId};
 use crate::state::PlaceState;
 
 /// The most slots of a node.
-pub(crate) const MOST_SLOTS: u8 = 4;
+pub(crate) const MAX_SLOTS: u8 = 4;
 
 /// How much a node is with all that it holds: its nodes, its places, and those of them in lists.
 #[derive(Clone, Copy, Debug, PartialEq, Eq)]
@@ -26,7 +26,7 @@ impl Arena {
         requires at { node < length self.now.forest.nodes }
         ensures within { IfSome result (λ p. p < length self.now.forest.places) }
     {
-        for index in slot..MOST_SLOTS {
+        for index in slot..MAX_SLOTS {
             if let Some(first) = self.slot_first(node, index) {
                 return Some(first);
             }

@@ -17,8 +17,8 @@ fn copied<L: Ledger>(alloc: Global, blank: Blank) -> Result<[u32; 5], ArenaFault
 {
     let mut steps = Steps::<L>::new(blank);
     let mut arena = Arena::new(alloc)?;
-    let statement = arena.make(Kind::ExpressionStatement.number())?;
-    let name = arena.make(Kind::Identifier.number())?;
+    let statement = arena.make(Kind::ExpressionStatement)?;
+    let name = arena.make(Kind::Identifier)?;
     if let Some(place) = arena.slot_first(statement, 0) {
         if arena.may_go(name, place) {
             arena.put(place, name, &mut steps);

@@ -2,16 +2,17 @@
 
 ghost use Rattle.std.specs.Prelude.{◌≡◌, ◌≢◌, ◌<◌, ◌≤◌, ◌↔◌, Err, true, length, drop};
 ghost use Rattle.std.specs.List.{list_any};
-ghost use Rattle.type_defs.specs.Builders.{args_at};
+ghost use Rattle.type_defs.specs.Builders.{args_of};
 
 use crate::arg::{BuildArg, BuildFault};
-use crate::takes::{Takes, field_takes};
+use crate::field_table::field_takes;
+use crate::takes::Takes;
 use node_arena::{Arena, NodeId};
-use type_defs::{BuilderArg, builder, fields};
+use type_defs::{BuilderArg, FieldDef, FieldShape, Kind, builder, fields};
 
 /// Whether the field takes the node, which is one of the arena.
 fn takes_node(arena: &Arena, takes: Takes, node: NodeId) -> bool {
-    node.number() < arena.nodes() && takes.accepts_number(arena.kind(node))
+    node.number() < arena.nodes() && takes.accepts(arena.kind(node))
 }
 
 /// Whether the field takes what stands in a place of a list.
@@ -43,8 +44,12 @@ fn takes_value(takes: Takes, value: &BuildArg) -> bool {
     }
 }
 
+fn shape(field: &FieldDef) -> FieldShape {
+    field.1
+}
+
 /// Whether the field of an argument takes it.
-fn fits(arena: &Arena, kind: u8, arg: BuilderArg, value: &BuildArg) -> bool {
+fn fits(arena: &Arena, kind: Kind, arg: BuilderArg, value: &BuildArg) -> bool {
     let fields = fields(kind);
     let all = field_takes(kind);
     let at = arg.field as usize;
@@ -52,16 +57,16 @@ fn fits(arena: &Arena, kind: u8, arg: BuilderArg, value: &BuildArg) -> bool {
         return false;
     }
     let takes = all[at];
-    if !fields[at].slot {
+    let FieldShape { slot, list, needed } = shape(&fields[at]);
+    if !slot {
         if let BuildArg::Absent = value {
             return !arg.needed;
         }
         return takes_value(takes, value);
     }
-    let list = fields[at].list;
     match value {
-        BuildArg::Absent => !arg.needed || (!list && !fields[at].needed),
-        BuildArg::Null => !list && !fields[at].needed,
+        BuildArg::Absent => !arg.needed || (!list && !needed),
+        BuildArg::Null => !list && !needed,
         BuildArg::Node(node) => !list && takes_node(arena, takes, *node),
         BuildArg::Nodes(items) => list && takes_list(arena, takes, items.as_slice()),
         BuildArg::Text(_) | BuildArg::Whole(_) | BuildArg::Truth(_) => false,
@@ -84,9 +89,9 @@ fn lacks(wanted: &[BuilderArg], count: usize) -> bool
 }
 
 /// Refuses arguments that the builder of the kind does not take.
-pub(crate) fn check_args(arena: &Arena, kind: u8, args: &[BuildArg]) -> Result<(), BuildFault>
-    ensures many { result ≡ Err BuildFault.TooMany ↔ length (args_at kind) < length args.now }
-    ensures few { result ≡ Err BuildFault.TooFew ↔ (length args.now ≤ length (args_at kind)) × (list_any (λ a. a.needed) (drop (length args.now) (args_at kind)) ≡ true) }
+pub(crate) fn check_args(arena: &Arena, kind: Kind, args: &[BuildArg]) -> Result<(), BuildFault>
+    ensures many { result ≡ Err BuildFault.TooMany ↔ length (args_of kind) < length args.now }
+    ensures few { result ≡ Err BuildFault.TooFew ↔ (length args.now ≤ length (args_of kind)) × (list_any (λ a. a.needed) (drop (length args.now) (args_of kind)) ≡ true) }
     ensures full { result ≢ Err BuildFault.Full }
     ensures memory { result ≢ Err BuildFault.NoMemory }
 {

@@ -2,7 +2,7 @@
 
 ghost use Rattle.std.specs.Prelude.{◌≡◌, ◌≢◌, ◌<◌, ◌≤◌, ◌↔◌, Err, true, length, drop, IfOk, IfSome};
 ghost use Rattle.std.specs.List.{list_any};
-ghost use Rattle.type_defs.specs.Builders.{args_at};
+ghost use Rattle.type_defs.specs.Builders.{args_of};
 ghost use Rattle.ast_paths.specs.Paths.{KeepsFilled, KeepsIds};
 
 use crate::arg::{BuildArg, BuildFault};
@@ -10,16 +10,16 @@ use crate::args::{check_args, count_items, item_at};
 use crate::needed::own_places;
 use crate::values::{is_specifier, is_twice, same_names, scalars_for};
 use ast_paths::{Room, settle_all};
-use node_arena::{Arena, ArenaFault, MOST_PLACES, NodeId, PlaceId, Steps};
+use node_arena::{Arena, ArenaFault, MAX_PLACES, NodeId, PlaceId, Steps};
 use std::alloc::{AllocError, Global};
 use std::marker::Brand;
 use std::sync::ledger::{Blank, Ledger};
 use tree_core::Scalar;
-use type_defs::{builder, is_list, scalar_count};
+use type_defs::{Kind, builder, is_list, scalar_count};
 
 /// The nodes of the arguments, in order; the one name of a specifier twice where the second is left
 /// out.
-fn given_nodes(alloc: Global, kind: u8, args: &[BuildArg]) -> Result<Vec<NodeId>, AllocError> {
+fn given_nodes(alloc: Global, kind: Kind, args: &[BuildArg]) -> Result<Vec<NodeId>, AllocError> {
     let mut nodes = Vec::new(alloc);
     for number in 0..count_items(args) {
         if let Some(node) = item_at(args, number) {
@@ -186,20 +186,20 @@ fn named(arg: &BuildArg) -> usize {
     }
 }
 
-/// The slot that an argument fills; 255 where it fills none.
-fn slot_for(kind: u8, at: usize) -> u8 {
+/// The slot that an argument fills; none where it fills a scalar.
+fn slot_for(kind: Kind, at: usize) -> Option<u8> {
     let wanted = builder(kind);
     if at >= wanted.len() {
-        return 255;
+        return None;
     }
-    wanted[at].field.saturating_sub(scalar_count(kind) as u8)
+    wanted[at].field.checked_sub(scalar_count(kind) as u8)
 }
 
-/// The roots from this number on into the places that an argument fills.
+/// The roots from this number on into the places that an argument fills, where it fills a slot.
 fn fill_one<L: Ledger>(
     arena: &mut Arena,
     node: NodeId,
-    slot: u8,
+    slot: Option<u8>,
     arg: &BuildArg,
     roots: &[NodeId],
     from: usize,
@@ -210,6 +210,9 @@ fn fill_one<L: Ledger>(
     ensures places { length arena.old.forest.places ≤ length arena.new.forest.places }
     ensures filled { KeepsFilled arena.old.forest arena.new.forest }
 {
+    let Some(slot) = slot else {
+        return;
+    };
     match arg {
         BuildArg::Node(_) => {
             if from >= roots.len() {
@@ -240,15 +243,8 @@ fn fill<L: Ledger>(
     let kind = arena.kind(node);
     let mut next: usize = 0;
     for at in 0..args.len() {
-        fill_one(
-            arena,
-            node,
-            slot_for(kind, at),
-            &args[at],
-            roots,
-            next,
-            steps,
-        );
+        let slot = slot_for(kind, at);
+        fill_one(arena, node, slot, &args[at], roots, next, steps);
         next = next.saturating_add(named(&args[at]));
     }
 }
@@ -297,7 +293,7 @@ fn build_fault(fault: ArenaFault) -> BuildFault
 fn build_node<L: Ledger>(
     alloc: Global,
     arena: &mut Arena,
-    kind: u8,
+    kind: Kind,
     args: &[BuildArg],
     blank: Blank,
 ) -> Result<NodeId, BuildFault>
@@ -319,7 +315,7 @@ fn build_node<L: Ledger>(
     let shorthand = is_specifier(kind) && nodes.len() == 2 && same_names(arena, nodes[0], nodes[1]);
     let room = Room {
         nodes: 1,
-        places: own_places(kind, args).min(MOST_PLACES) as u32,
+        places: own_places(kind, args).min(MAX_PLACES) as u32,
     };
     let mut steps = Steps::<L>::new(blank);
     let root = arena.root();
@@ -345,14 +341,14 @@ fn build_node<L: Ledger>(
 pub fn build(
     alloc: Global,
     arena: &mut Arena,
-    kind: u8,
+    kind: Kind,
     args: &[BuildArg],
 ) -> Result<NodeId, BuildFault>
     ensures ids { KeepsIds arena.old.forest arena.new.forest }
     ensures filled { KeepsFilled arena.old.forest arena.new.forest }
     ensures within { IfOk result (λ j. j < length arena.new.forest.nodes) }
-    ensures many { result ≡ Err BuildFault.TooMany ↔ length (args_at kind) < length args.now }
-    ensures few { result ≡ Err BuildFault.TooFew ↔ (length args.now ≤ length (args_at kind)) × (list_any (λ a. a.needed) (drop (length args.now) (args_at kind)) ≡ true) }
+    ensures many { result ≡ Err BuildFault.TooMany ↔ length (args_of kind) < length args.now }
+    ensures few { result ≡ Err BuildFault.TooFew ↔ (length args.now ≤ length (args_of kind)) × (list_any (λ a. a.needed) (drop (length args.now) (args_of kind)) ≡ true) }
 {
     check_args(arena, kind, args)?;
     build_node::<Brand>(alloc, arena, kind, args, Blank::new(1))

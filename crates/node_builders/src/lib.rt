@@ -7,6 +7,7 @@
 mod arg;
 mod args;
 mod building;
+mod field_table;
 mod needed;
 mod takes;
 #[cfg(test)]
@@ -15,5 +16,6 @@ mod values;
 
 pub use arg::{BuildArg, BuildFault};
 pub use building::build;
+pub use field_table::field_takes;
 pub use needed::needs;
-pub use takes::{Takes, field_takes};
+pub use takes::Takes;

@@ -1,7 +1,7 @@
-//! What each field of a kind takes, after the forms of ECMA-262 and the kinds of ESTree.
+//! What a field may take.
 
-ghost use Rattle.std.specs.Prelude.{◌≡◌, ◌↔◌, IsTrue};
-ghost use Rattle.node_builders.specs.Takes.{Accepts, except_of, group_of, has_holes, others_of, takes_at, takes_of};
+ghost use Rattle.std.specs.Prelude.{◌≡◌, IsTrue, length, map};
+ghost use Rattle.node_builders.specs.Takes.{accepts, all_takes, are_takes_in_order, except_lists, except_of, group_of, groups, has, has_holes, other_lists, others_of};
 
 use type_defs::{Group, Kind};
 
@@ -54,7 +54,8 @@ pub enum Takes {
     Simple,
     /// What may be assigned to.
     Target,
-    /// An item of an array pattern: a target or a name or a pattern, perhaps with a default or behind `...`, or a hole.
+    /// An item of an array pattern: a target or a name or a pattern, perhaps with a default or
+    /// behind `...`, or a hole.
     PatternItem,
     /// A property of a pattern or a rest element.
     PatternProperty,
@@ -92,288 +93,276 @@ pub enum Takes {
     Default,
 }
 
-/// What each field of the kind takes, in the order of the fields.
-fn takes_of(kind: Kind) -> &'static [Takes]
-    ensures { result.now ≡ takes_of kind }
+/// What it takes, the group of kinds, the kinds of the group that it does not take, and the kinds
+/// that it takes beside the group.
+pub type TakesRow = (Takes, Option<Group>, &'static [Kind], &'static [Kind]);
+
+/// A row for each, in the order of the enum.
+pub const TAKES: &[TakesRow] = &[
+    (Takes::Text, None, &[], &[]),
+    (Takes::Sort, None, &[], &[]),
+    (Takes::Value, None, &[], &[]),
+    (Takes::MaybeText, None, &[], &[]),
+    (
+        Takes::Element,
+        Some(Group::Expression),
+        &[],
+        &[Kind::SpreadElement],
+    ),
+    (
+        Takes::ObjectItem,
+        None,
+        &[],
+        &[Kind::Property, Kind::SpreadElement],
+    ),
+    (Takes::Truth, None, &[], &[]),
+    (Takes::Expression, Some(Group::Expression), &[], &[]),
+    (Takes::Name, None, &[], &[Kind::Identifier]),
+    (
+        Takes::Parameter,
+        None,
+        &[],
+        &[
+            Kind::Identifier,
+            Kind::ObjectPattern,
+            Kind::ArrayPattern,
+            Kind::AssignmentPattern,
+            Kind::RestElement,
+        ],
+    ),
+    (Takes::Block, None, &[], &[Kind::BlockStatement]),
+    (
+        Takes::ArrowBody,
+        Some(Group::Expression),
+        &[],
+        &[Kind::BlockStatement],
+    ),
+    (Takes::ClassBody, None, &[], &[Kind::ClassBody]),
+    (
+        Takes::ClassItem,
+        None,
+        &[],
+        &[
+            Kind::MethodDefinition,
+            Kind::PropertyDefinition,
+            Kind::StaticBlock,
+        ],
+    ),
+    (
+        Takes::Key,
+        Some(Group::Expression),
+        &[],
+        &[Kind::PrivateIdentifier],
+    ),
+    (Takes::Method, None, &[], &[Kind::FunctionExpression]),
+    (Takes::Quasi, None, &[], &[Kind::TemplateElement]),
+    (Takes::Template, None, &[], &[Kind::TemplateLiteral]),
+    (Takes::Callee, Some(Group::Expression), &[], &[Kind::Super]),
+    (
+        Takes::Argument,
+        Some(Group::Expression),
+        &[],
+        &[Kind::SpreadElement],
+    ),
+    (
+        Takes::Link,
+        None,
+        &[],
+        &[Kind::MemberExpression, Kind::CallExpression],
+    ),
+    (
+        Takes::Simple,
+        None,
+        &[],
+        &[Kind::Identifier, Kind::MemberExpression],
+    ),
+    (
+        Takes::Target,
+        None,
+        &[],
+        &[
+            Kind::Identifier,
+            Kind::MemberExpression,
+            Kind::ObjectPattern,
+            Kind::ArrayPattern,
+        ],
+    ),
+    (
+        Takes::PatternItem,
+        None,
+        &[],
+        &[
+            Kind::Identifier,
+            Kind::MemberExpression,
+            Kind::ObjectPattern,
+            Kind::ArrayPattern,
+            Kind::AssignmentPattern,
+            Kind::RestElement,
+        ],
+    ),
+    (
+        Takes::PatternProperty,
+        None,
+        &[],
+        &[Kind::AssignmentProperty, Kind::RestElement],
+    ),
+    (
+        Takes::Part,
+        None,
+        &[],
+        &[
+            Kind::Identifier,
+            Kind::MemberExpression,
+            Kind::ObjectPattern,
+            Kind::ArrayPattern,
+            Kind::AssignmentPattern,
+        ],
+    ),
+    (Takes::ModuleItem, Some(Group::Statement), &[], &[]),
+    (
+        Takes::BodyItem,
+        Some(Group::Statement),
+        &[
+            Kind::ImportDeclaration,
+            Kind::ExportNamedDeclaration,
+            Kind::ExportDefaultDeclaration,
+            Kind::ExportAllDeclaration,
+        ],
+        &[],
+    ),
+    (
+        Takes::Statement,
+        Some(Group::Statement),
+        &[
+            Kind::Directive,
+            Kind::FunctionDeclaration,
+            Kind::ClassDeclaration,
+            Kind::ImportDeclaration,
+            Kind::ExportNamedDeclaration,
+            Kind::ExportDefaultDeclaration,
+            Kind::ExportAllDeclaration,
+        ],
+        &[],
+    ),
+    (Takes::Case, None, &[], &[Kind::SwitchCase]),
+    (
+        Takes::Item,
+        Some(Group::Statement),
+        &[
+            Kind::Directive,
+            Kind::ImportDeclaration,
+            Kind::ExportNamedDeclaration,
+            Kind::ExportDefaultDeclaration,
+            Kind::ExportAllDeclaration,
+        ],
+        &[],
+    ),
+    (Takes::Catch, None, &[], &[Kind::CatchClause]),
+    (
+        Takes::Binding,
+        None,
+        &[],
+        &[Kind::Identifier, Kind::ObjectPattern, Kind::ArrayPattern],
+    ),
+    (
+        Takes::Init,
+        Some(Group::Expression),
+        &[],
+        &[Kind::VariableDeclaration],
+    ),
+    (
+        Takes::Left,
+        None,
+        &[],
+        &[
+            Kind::Identifier,
+            Kind::MemberExpression,
+            Kind::ObjectPattern,
+            Kind::ArrayPattern,
+            Kind::VariableDeclaration,
+        ],
+    ),
+    (Takes::Declarator, None, &[], &[Kind::VariableDeclarator]),
+    (
+        Takes::ImportSpecifier,
+        None,
+        &[],
+        &[
+            Kind::ImportSpecifier,
+            Kind::ImportDefaultSpecifier,
+            Kind::ImportNamespaceSpecifier,
+        ],
+    ),
+    (Takes::Source, None, &[], &[Kind::Literal]),
+    (
+        Takes::Declaration,
+        None,
+        &[],
+        &[
+            Kind::VariableDeclaration,
+            Kind::FunctionDeclaration,
+            Kind::ClassDeclaration,
+        ],
+    ),
+    (Takes::ExportSpecifier, None, &[], &[Kind::ExportSpecifier]),
+    (
+        Takes::Default,
+        Some(Group::Expression),
+        &[],
+        &[Kind::FunctionDeclaration, Kind::ClassDeclaration],
+    ),
+];
+
+#[tactic(auto, unfolding(crate::specs::Takes::all_takes, crate::specs::Takes::groups, crate::specs::Takes::except_lists, crate::specs::Takes::other_lists, type_defs::specs::Rows::in_order))]
+fn takes_rows() -> &'static [TakesRow]
+    ensures count { length result.now ≡ 41 }
+    ensures order { IsTrue (are_takes_in_order all_takes) }
+    ensures takes { map (λ row. row.0) result.now ≡ all_takes }
+    ensures groups { map (λ row. row.1) result.now ≡ groups }
+    ensures except { map (λ row. row.2.now) result.now ≡ except_lists }
+    ensures others { map (λ row. row.3.now) result.now ≡ other_lists }
 {
-    match kind {
-        Kind::Identifier => &[Takes::Text],
-        Kind::Literal => &[Takes::Sort, Takes::Value, Takes::MaybeText],
-        Kind::ThisExpression => &[],
-        Kind::Super => &[],
-        Kind::ArrayExpression => &[Takes::Element],
-        Kind::ObjectExpression => &[Takes::ObjectItem],
-        Kind::Property => &[
-            Takes::Text,
-            Takes::Truth,
-            Takes::Truth,
-            Takes::Truth,
-            Takes::Expression,
-            Takes::Expression,
-        ],
-        Kind::FunctionExpression => &[
-            Takes::Truth,
-            Takes::Truth,
-            Takes::Name,
-            Takes::Parameter,
-            Takes::Block,
-        ],
-        Kind::ArrowFunctionExpression => &[Takes::Truth, Takes::Parameter, Takes::ArrowBody],
-        Kind::ClassExpression => &[Takes::Name, Takes::Expression, Takes::ClassBody],
-        Kind::ClassBody => &[Takes::ClassItem],
-        Kind::MethodDefinition => &[
-            Takes::Text,
-            Takes::Truth,
-            Takes::Truth,
-            Takes::Key,
-            Takes::Method,
-        ],
-        Kind::TemplateLiteral => &[Takes::Quasi, Takes::Expression],
-        Kind::TemplateElement => &[Takes::Text],
-        Kind::TaggedTemplateExpression => &[Takes::Expression, Takes::Template],
-        Kind::MemberExpression => &[Takes::Truth, Takes::Truth, Takes::Callee, Takes::Key],
-        Kind::CallExpression => &[Takes::Truth, Takes::Callee, Takes::Argument],
-        Kind::NewExpression => &[Takes::Expression, Takes::Argument],
-        Kind::ImportExpression => &[Takes::Expression],
-        Kind::ChainExpression => &[Takes::Link],
-        Kind::MetaProperty => &[Takes::Text],
-        Kind::UpdateExpression => &[Takes::Text, Takes::Truth, Takes::Simple],
-        Kind::UnaryExpression => &[Takes::Text, Takes::Expression],
-        Kind::AwaitExpression => &[Takes::Expression],
-        Kind::BinaryExpression => &[Takes::Text, Takes::Key, Takes::Expression],
-        Kind::LogicalExpression => &[Takes::Text, Takes::Expression, Takes::Expression],
-        Kind::ConditionalExpression => &[Takes::Expression, Takes::Expression, Takes::Expression],
-        Kind::AssignmentExpression => &[Takes::Text, Takes::Target, Takes::Expression],
-        Kind::YieldExpression => &[Takes::Truth, Takes::Expression],
-        Kind::SequenceExpression => &[Takes::Expression],
-        Kind::SpreadElement => &[Takes::Expression],
-        Kind::ArrayPattern => &[Takes::PatternItem],
-        Kind::ObjectPattern => &[Takes::PatternProperty],
-        Kind::AssignmentProperty => &[Takes::Truth, Takes::Truth, Takes::Expression, Takes::Part],
-        Kind::AssignmentPattern => &[Takes::Target, Takes::Expression],
-        Kind::RestElement => &[Takes::Target],
-        Kind::Program => &[Takes::MaybeText, Takes::ModuleItem],
-        Kind::Directive => &[Takes::Text],
-        Kind::ExpressionStatement => &[Takes::Expression],
-        Kind::BlockStatement => &[Takes::BodyItem],
-        Kind::EmptyStatement => &[],
-        Kind::DebuggerStatement => &[],
-        Kind::WithStatement => &[Takes::Expression, Takes::Statement],
-        Kind::ReturnStatement => &[Takes::Expression],
-        Kind::LabeledStatement => &[Takes::Name, Takes::Statement],
-        Kind::BreakStatement => &[Takes::Name],
-        Kind::ContinueStatement => &[Takes::Name],
-        Kind::IfStatement => &[Takes::Expression, Takes::Statement, Takes::Statement],
-        Kind::SwitchStatement => &[Takes::Expression, Takes::Case],
-        Kind::SwitchCase => &[Takes::Expression, Takes::Item],
-        Kind::ThrowStatement => &[Takes::Expression],
-        Kind::TryStatement => &[Takes::Block, Takes::Catch, Takes::Block],
-        Kind::CatchClause => &[Takes::Binding, Takes::Block],
-        Kind::WhileStatement => &[Takes::Expression, Takes::Statement],
-        Kind::DoWhileStatement => &[Takes::Statement, Takes::Expression],
-        Kind::ForStatement => &[
-            Takes::Init,
-            Takes::Expression,
-            Takes::Expression,
-            Takes::Statement,
-        ],
-        Kind::ForInStatement => &[Takes::Left, Takes::Expression, Takes::Statement],
-        Kind::ForOfStatement => &[
-            Takes::Truth,
-            Takes::Left,
-            Takes::Expression,
-            Takes::Statement,
-        ],
-        Kind::VariableDeclaration => &[Takes::Text, Takes::Declarator],
-        Kind::VariableDeclarator => &[Takes::Binding, Takes::Expression],
-        Kind::FunctionDeclaration => &[
-            Takes::Truth,
-            Takes::Truth,
-            Takes::Name,
-            Takes::Parameter,
-            Takes::Block,
-        ],
-        Kind::ClassDeclaration => &[Takes::Name, Takes::Expression, Takes::ClassBody],
-        Kind::ImportDeclaration => &[Takes::ImportSpecifier, Takes::Source],
-        Kind::ImportSpecifier => &[Takes::Truth, Takes::Name, Takes::Name],
-        Kind::ImportDefaultSpecifier => &[Takes::Name],
-        Kind::ImportNamespaceSpecifier => &[Takes::Name],
-        Kind::ExportNamedDeclaration => &[
-            Takes::Declaration,
-            Takes::ExportSpecifier,
-            Takes::Source,
-        ],
-        Kind::ExportSpecifier => &[Takes::Truth, Takes::Name, Takes::Name],
-        Kind::ExportDefaultDeclaration => &[Takes::Default],
-        Kind::ExportAllDeclaration => &[Takes::Name, Takes::Source],
-        Kind::PropertyDefinition => &[Takes::Truth, Takes::Truth, Takes::Key, Takes::Expression],
-        Kind::PrivateIdentifier => &[Takes::Text],
-        Kind::StaticBlock => &[Takes::Item],
-    }
+    TAKES
 }
 
-/// What each field of the kind of this number takes; none where no kind has it.
-pub fn field_takes(kind: u8) -> &'static [Takes]
-    ensures { result.now ≡ takes_at kind }
+fn has(kinds: &[Kind], kind: Kind) -> bool
+    ensures { result ≡ has kinds.now kind }
 {
-    match Kind::from_number(kind) {
-        Some(kind) => takes_of(kind),
-        None => &[],
-    }
+    kinds.contains(&kind)
 }
 
 impl Takes {
-    /// The group that it takes, but for some kinds.
+    /// The group of kinds that it takes, but for some of them.
     fn group(self) -> Option<Group>
         ensures { result ≡ group_of self }
     {
-        match self {
-            Takes::Expression
-            | Takes::Element
-            | Takes::ArrowBody
-            | Takes::Key
-            | Takes::Callee
-            | Takes::Argument
-            | Takes::Init
-            | Takes::Default => Some(Group::Expression),
-            Takes::ModuleItem | Takes::BodyItem | Takes::Item | Takes::Statement => Some(
-                Group::Statement,
-            ),
-            _ => None,
-        }
+        takes_rows()[self as usize].1
     }
 
     /// The kinds of the group that it does not take.
     fn except(self) -> &'static [Kind]
         ensures { result.now ≡ except_of self }
     {
-        match self {
-            Takes::BodyItem => &[
-                Kind::ImportDeclaration,
-                Kind::ExportNamedDeclaration,
-                Kind::ExportDefaultDeclaration,
-                Kind::ExportAllDeclaration,
-            ],
-            Takes::Item => &[
-                Kind::Directive,
-                Kind::ImportDeclaration,
-                Kind::ExportNamedDeclaration,
-                Kind::ExportDefaultDeclaration,
-                Kind::ExportAllDeclaration,
-            ],
-            Takes::Statement => &[
-                Kind::Directive,
-                Kind::FunctionDeclaration,
-                Kind::ClassDeclaration,
-                Kind::ImportDeclaration,
-                Kind::ExportNamedDeclaration,
-                Kind::ExportDefaultDeclaration,
-                Kind::ExportAllDeclaration,
-            ],
-            _ => &[],
-        }
+        takes_rows()[self as usize].2
     }
 
     /// The kinds that it takes beside the group.
     fn others(self) -> &'static [Kind]
         ensures { result.now ≡ others_of self }
     {
-        match self {
-            Takes::Element => &[Kind::SpreadElement],
-            Takes::ObjectItem => &[Kind::Property, Kind::SpreadElement],
-            Takes::Name => &[Kind::Identifier],
-            Takes::Parameter => &[
-                Kind::Identifier,
-                Kind::ObjectPattern,
-                Kind::ArrayPattern,
-                Kind::AssignmentPattern,
-                Kind::RestElement,
-            ],
-            Takes::Block => &[Kind::BlockStatement],
-            Takes::ArrowBody => &[Kind::BlockStatement],
-            Takes::ClassBody => &[Kind::ClassBody],
-            Takes::ClassItem => &[
-                Kind::MethodDefinition,
-                Kind::PropertyDefinition,
-                Kind::StaticBlock,
-            ],
-            Takes::Key => &[Kind::PrivateIdentifier],
-            Takes::Method => &[Kind::FunctionExpression],
-            Takes::Quasi => &[Kind::TemplateElement],
-            Takes::Template => &[Kind::TemplateLiteral],
-            Takes::Callee => &[Kind::Super],
-            Takes::Argument => &[Kind::SpreadElement],
-            Takes::Link => &[Kind::MemberExpression, Kind::CallExpression],
-            Takes::Simple => &[Kind::Identifier, Kind::MemberExpression],
-            Takes::Target => &[
-                Kind::Identifier,
-                Kind::MemberExpression,
-                Kind::ObjectPattern,
-                Kind::ArrayPattern,
-            ],
-            Takes::PatternItem => &[
-                Kind::Identifier,
-                Kind::MemberExpression,
-                Kind::ObjectPattern,
-                Kind::ArrayPattern,
-                Kind::AssignmentPattern,
-                Kind::RestElement,
-            ],
-            Takes::PatternProperty => &[Kind::AssignmentProperty, Kind::RestElement],
-            Takes::Part => &[
-                Kind::Identifier,
-                Kind::MemberExpression,
-                Kind::ObjectPattern,
-                Kind::ArrayPattern,
-                Kind::AssignmentPattern,
-            ],
-            Takes::Case => &[Kind::SwitchCase],
-            Takes::Catch => &[Kind::CatchClause],
-            Takes::Binding => &[Kind::Identifier, Kind::ObjectPattern, Kind::ArrayPattern],
-            Takes::Init => &[Kind::VariableDeclaration],
-            Takes::Left => &[
-                Kind::Identifier,
-                Kind::MemberExpression,
-                Kind::ObjectPattern,
-                Kind::ArrayPattern,
-                Kind::VariableDeclaration,
-            ],
-            Takes::Declarator => &[Kind::VariableDeclarator],
-            Takes::ImportSpecifier => &[
-                Kind::ImportSpecifier,
-                Kind::ImportDefaultSpecifier,
-                Kind::ImportNamespaceSpecifier,
-            ],
-            Takes::Source => &[Kind::Literal],
-            Takes::Declaration => &[
-                Kind::VariableDeclaration,
-                Kind::FunctionDeclaration,
-                Kind::ClassDeclaration,
-            ],
-            Takes::ExportSpecifier => &[Kind::ExportSpecifier],
-            Takes::Default => &[Kind::FunctionDeclaration, Kind::ClassDeclaration],
-            _ => &[],
-        }
+        takes_rows()[self as usize].3
     }
 
     /// Whether it takes nodes of the kind.
-    fn accepts(self, kind: Kind) -> bool
-        ensures { IsTrue result ↔ Accepts self kind }
+    pub fn accepts(self, kind: Kind) -> bool
+        ensures { result ≡ accepts self kind }
     {
-        if self.others().contains(&kind) {
+        if has(self.others(), kind) {
             return true;
         }
         match self.group() {
             None => false,
-            Some(group) => kind.belongs(group) && !self.except().contains(&kind),
-        }
-    }
-
-    /// Whether it takes nodes of the kind of this number.
-    pub fn accepts_number(self, kind: u8) -> bool {
-        match Kind::from_number(kind) {
-            None => false,
-            Some(kind) => self.accepts(kind),
+            Some(group) => kind.belongs(group) && !has(self.except(), kind),
         }
     }
 

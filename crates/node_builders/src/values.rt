@@ -1,14 +1,15 @@
 //! The scalars of a built node.
 
 use crate::arg::BuildArg;
-use crate::takes::{Takes, field_takes};
+use crate::field_table::field_takes;
+use crate::takes::Takes;
 use node_arena::{Arena, NodeId};
 use std::alloc::{AllocError, Global};
 use tree_core::{Scalar, Units};
 use type_defs::{Kind, builder, scalar_count};
 
 /// Whether a specifier takes its one name twice: the second is left out, and then a copy.
-pub(crate) fn is_twice(kind: u8, args: &[BuildArg]) -> bool {
+pub(crate) fn is_twice(kind: Kind, args: &[BuildArg]) -> bool {
     if !is_specifier(kind) || args.is_empty() {
         return false;
     }
@@ -16,11 +17,8 @@ pub(crate) fn is_twice(kind: u8, args: &[BuildArg]) -> bool {
 }
 
 /// Whether nodes of the kind spell two names by one where these are the same.
-pub(crate) fn is_specifier(kind: u8) -> bool {
-    matches!(
-        Kind::from_number(kind),
-        Some(Kind::ImportSpecifier) | Some(Kind::ExportSpecifier)
-    )
+pub(crate) fn is_specifier(kind: Kind) -> bool {
+    matches!(kind, Kind::ImportSpecifier | Kind::ExportSpecifier)
 }
 
 /// Whether two nodes are names, and the same.
@@ -40,7 +38,7 @@ fn name_of(arena: &Arena, node: NodeId) -> Option<&[u16]> {
         return None;
     }
     let kind = arena.kind(node);
-    if kind != 1 || scalar_count(kind) == 0 {
+    if kind != Kind::Identifier || scalar_count(kind) == 0 {
         return None;
     }
     match arena.scalar(node, 0) {
@@ -78,7 +76,7 @@ fn sort_of(value: &BuildArg) -> &'static str {
 }
 
 /// The number of the argument for a field.
-fn argument_for(kind: u8, field: u8) -> Option<usize> {
+fn argument_for(kind: Kind, field: u8) -> Option<usize> {
     builder(kind).iter().position(|arg| arg.field == field)
 }
 
@@ -93,7 +91,7 @@ fn usual(takes: Takes) -> Scalar {
 /// A scalar by its field and the arguments.
 fn scalar_for(
     alloc: Global,
-    kind: u8,
+    kind: Kind,
     args: &[BuildArg],
     field: u8,
     takes: Takes,
@@ -113,7 +111,7 @@ fn scalar_for(
 /// The scalars of a node of the kind, in the order of its fields.
 pub(crate) fn scalars_for(
     alloc: Global,
-    kind: u8,
+    kind: Kind,
     args: &[BuildArg],
 ) -> Result<Vec<Scalar>, AllocError> {
     let all = field_takes(kind);

@@ -2,10 +2,11 @@
 use Rattle.std.specs.Prelude.{ℕ, [], Option, Some, None}
 use Rattle.tree_core.specs.Syntax.{Syntax, node, Slots, no_slots, slot, Places, no_places, hole, place}
 use Rattle.tree_core.specs.View.{Spot, Row}
+use Rattle.type_defs.specs.declared.kind.Kind.TheVariants.{Program}
 
--- a node with its number and these slots alone
+-- a node with its number and these slots alone: its kind is always the same
 abbrev pub framed : Option ℕ → Slots → Syntax
-framed from slots = node 0 [] slots (record { lead = []; trail = []; inner = [] }) from
+framed from slots = node Program [] slots (record { lead = []; trail = []; inner = [] }) from
 
 abbrev mutual
   -- the numbers of the nodes, their slots and the names of the places

@@ -1,7 +1,5 @@
 -- Which kinds patterns have (ECMA-262, clauses 13.15.5 and 15.3; ESTree).
-use Rattle.std.specs.Prelude.{ℕ, Option, Some, None}
-use Rattle.std.specs.Option.{option_map, option_and_then}
-use Rattle.type_defs.specs.Kinds.{kind_at, number_of}
+use Rattle.std.specs.Prelude.{Option, Some, None}
 use Rattle.type_defs.specs.declared.kind.Kind.{Kind}
 use Rattle.type_defs.specs.declared.kind.Kind.TheVariants as k
 
@@ -20,7 +18,3 @@ pattern_kind k.RestElement = Some k.RestElement
 pattern_kind k.Property = Some k.AssignmentProperty
 pattern_kind k.AssignmentProperty = Some k.AssignmentProperty
 pattern_kind kind = None
-
--- the same by the kinds' numbers
-abbrev pub pattern_number : ℕ → Option ℕ
-pattern_number number = option_map number_of (option_and_then pattern_kind (kind_at number))

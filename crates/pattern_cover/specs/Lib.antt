@@ -1,4 +1,4 @@
 pub mod Convertible
 pub mod Frame
 pub mod Kinds
-pub mod Seats
+pub mod Positions

@@ -1,3 +1,4 @@
 pub mod Climbs
 pub mod Names
-pub mod Waits
+pub mod WorkStack
+pub mod Bound

@@ -4,7 +4,7 @@ use Rattle.node_arena.specs.Store.{Store}
 use Rattle.scope_lookup.specs.declared.scope.Scope.{Scope}
 use Rattle.scope_lookup.specs.declared.resolving.Found.{Found}
 use Rattle.scope_lookup.specs.Climbs.{outer_of}
-use Rattle.scope_lookup.specs.Modes.{name_at}
+use Rattle.scope_lookup.specs.Scopings.{name_at}
 use Rattle.scope_lookup.specs.Resolve.{declaration, find_in, first_named, here_or, is_name, outside}
 
 first_cons : (A : Store) (name : List ℕ) (p : ℕ) (ps : List ℕ) → first_named A name (p ∷ ps) ≡ (if is_name name (name_at A p) then Some p else first_named A name ps)

@@ -1,7 +1,7 @@
 -- The scope around a place, and around a scope.
 use Rattle.std.specs.Prelude.{ℕ, zero, suc, Bool, true, false, length, Option, Some, None, ◌==◌, ◌&&◌, ◌||◌, not, if◌then◌else◌}
 use Rattle.type_defs.specs.declared.kind.Kind.TheVariants as k
-use Rattle.type_defs.specs.Kinds.{number_of}
+use Rattle.type_defs.specs.Kinds.{same_kind}
 use Rattle.node_arena.specs.Forest.{Forest, node_at}
 use Rattle.node_arena.specs.Reads.{kind_at, owner_at, place_at}
 use Rattle.node_arena.specs.Store.{Store}
@@ -9,14 +9,18 @@ use Rattle.scope_lookup.specs.declared.role.Role.{Role}
 use Rattle.scope_lookup.specs.declared.scope.Scope.{Scope}
 use Rattle.scope_lookup.specs.declared.climbing.Around.{Around}
 use Rattle.scope_lookup.specs.declared.climbing.Around.TheVariants.{Inside, Above, Nowhere}
-use Rattle.scope_lookup.specs.Roles.{has_extent, is_declared, is_key, is_outside, is_own_name}
-use Rattle.scope_lookup.specs.Places.{role_at, extent_at, is_named, is_computed}
+use Rattle.scope_lookup.specs.Roles.{has_scope, is_declared, is_key, is_outside, is_own_name}
+use Rattle.scope_lookup.specs.Places.{role_at, scope_kind_at, is_named, is_computed}
 
 abbrev pub own_scope : ℕ → Scope
 own_scope j = record { owner = j; name = false }
 
 abbrev pub name_scope : ℕ → Scope
 name_scope j = record { owner = j; name = true }
+
+-- a program's scope
+abbrev pub is_global : Forest → Scope → Bool
+is_global F s = not s.name && same_kind (kind_at F s.owner) k.Program
 
 abbrev pub above_place : Option ℕ → Around
 above_place None = Nowhere
@@ -37,7 +41,7 @@ owner_of F j = owner_some F (place_at F j)
 
 abbrev pub class_in : Forest → ℕ → Option ℕ → Option ℕ
 class_in F member None = Some member
-class_in F member (Some body) = if kind_at F body == number_of k.ClassBody then owner_of F body else Some member
+class_in F member (Some body) = if same_kind (kind_at F body) k.ClassBody then owner_of F body else Some member
 
 -- the class of a member, and the member itself where it is in no class body
 abbrev pub class_of : Forest → ℕ → Option ℕ
@@ -45,7 +49,7 @@ class_of F member = class_in F member (owner_of F member)
 
 -- what a place that is no place of a name belongs to
 abbrev pub inside : Forest → ℕ → Around
-inside F j = if has_extent (extent_at F j) then Inside (own_scope j) else (if is_named F j then Inside (name_scope j) else above F (Some j))
+inside F j = if has_scope (scope_kind_at F j) then Inside (own_scope j) else (if is_named F j then Inside (name_scope j) else above F (Some j))
 
 -- the names of declarations, computed keys and what a class extends belong outside
 abbrev pub around_role : Store → ℕ → Role → Around
@@ -78,7 +82,7 @@ climb_from A p = climb (suc (length A.forest.nodes)) A p
 
 abbrev pub program_in : Forest → Option ℕ → Option Scope
 program_in F None = None
-program_in F (Some j) = if kind_at F j == number_of k.Program then Some (own_scope j) else None
+program_in F (Some j) = if same_kind (kind_at F j) k.Program then Some (own_scope j) else None
 
 -- the scope to which a place belongs; the root place belongs to the program in it
 abbrev pub scope_at : Store → ℕ → Option Scope
@@ -90,7 +94,7 @@ climb_some A (Some p) = climb_from A p
 
 -- a scope inside that of its owner's name
 abbrev pub has_name_scope : Forest → Scope → Bool
-has_name_scope F s = not s.name && (has_extent (extent_at F s.owner) && is_named F s.owner)
+has_name_scope F s = not s.name && (has_scope (scope_kind_at F s.owner) && is_named F s.owner)
 
 -- the next outer scope
 abbrev pub outer_of : Store → Scope → Option Scope

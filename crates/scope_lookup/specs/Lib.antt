@@ -1,6 +1,7 @@
 pub mod Roles
 pub mod Places
 pub mod Climbs
-pub mod Modes
+pub mod Scopings
 pub mod Walk
 pub mod Resolve
+pub mod Bindings

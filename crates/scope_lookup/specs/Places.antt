@@ -8,10 +8,10 @@ use Rattle.node_arena.specs.Reads.{kind_at, owner_at, index_at, place_at, first_
 use Rattle.node_arena.specs.Store.{Store, scalar_at}
 use Rattle.scope_lookup.specs.declared.role.Role.{Role}
 use Rattle.scope_lookup.specs.declared.role.Role.TheVariants.{Plain}
-use Rattle.scope_lookup.specs.declared.role.Extent.{Extent}
+use Rattle.scope_lookup.specs.declared.role.ScopeKind.{ScopeKind}
 use Rattle.scope_lookup.specs.declared.climbing.Around.{Around}
 use Rattle.scope_lookup.specs.declared.climbing.Around.TheVariants as around
-use Rattle.scope_lookup.specs.Roles.{role_in, extent_in, computed_in, extent_under, has_extent, is_own_name}
+use Rattle.scope_lookup.specs.Roles.{role_in, scope_kind_of, computed_of, kind_under, has_scope, is_own_name}
 
 abbrev pub role_between : Forest → Option ℕ → Option ℕ → Role
 role_between F (Some owner) (Some slot) = role_in (kind_at F owner) slot
@@ -25,9 +25,9 @@ abbrev pub role_some : Forest → Option ℕ → Role
 role_some F None = Plain
 role_some F (Some p) = role_at F p
 
--- how far the scope of a node reaches
-abbrev pub extent_at : Forest → ℕ → Extent
-extent_at F j = extent_under (role_some F (place_at F j)) (extent_in (kind_at F j))
+-- which scope a node has
+abbrev pub scope_kind_at : Forest → ℕ → ScopeKind
+scope_kind_at F j = kind_under (role_some F (place_at F j)) (scope_kind_of (kind_at F j))
 
 abbrev pub is_filled : Forest → Option ℕ → Bool
 is_filled F None = false
@@ -39,7 +39,7 @@ is_named F j = is_own_name (role_in (kind_at F j) 0) && is_filled F (first_at F 
 
 -- the nodes that have scopes
 abbrev pub is_scope : Forest → ℕ → Bool
-is_scope F j = has_extent (extent_at F j) || is_named F j
+is_scope F j = has_scope (scope_kind_at F j) || is_named F j
 
 abbrev pub is_truth : Option Scalar → Bool
 is_truth (Some (Truth b)) = b
@@ -51,7 +51,7 @@ truth_some A j (Some index) = if nat_lt index (scalar_count (kind_at A.forest j)
 
 -- the node's key is computed
 abbrev pub is_computed : Store → ℕ → Bool
-is_computed A j = truth_some A j (computed_in (kind_at A.forest j))
+is_computed A j = truth_some A j (computed_of (kind_at A.forest j))
 
 -- the node or place that a step of the climb names is one of the forest
 abbrev pub AroundIn : Forest → Around → Type 0

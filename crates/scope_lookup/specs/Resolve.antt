@@ -10,7 +10,7 @@ use Rattle.scope_lookup.specs.declared.resolving.Found.{Found}
 use Rattle.scope_lookup.specs.Roles.{is_exported, is_key, is_word}
 use Rattle.scope_lookup.specs.Places.{role_at, is_computed, is_filled}
 use Rattle.scope_lookup.specs.Climbs.{outer_of, scope_at}
-use Rattle.scope_lookup.specs.Modes.{name_at}
+use Rattle.scope_lookup.specs.Scopings.{name_at}
 use Rattle.scope_lookup.specs.Walk.{declaring}
 
 abbrev pub is_name : List ℕ → Option (List ℕ) → Bool

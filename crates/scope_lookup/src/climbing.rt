@@ -1,10 +1,10 @@
 //! From a place up to the scope around it.
 
 ghost use Rattle.std.specs.Prelude.{◌≡◌, ◌<◌, length, IfSome};
-ghost use Rattle.scope_lookup.specs.Climbs.{above, around, class_of, climb_from, inside, outer_of, owner_of, scope_at};
+ghost use Rattle.scope_lookup.specs.Climbs.{above, around, class_of, climb_from, inside, is_global, outer_of, owner_of, scope_at};
 ghost use Rattle.scope_lookup.specs.Places.{AroundIn, is_scope};
 
-use crate::reading::{extent_at, is_computed, is_named, role_at};
+use crate::node_roles::{is_computed, is_named, role_at, scope_kind_at};
 use crate::scope::Scope;
 use node_arena::{Arena, NodeId, PlaceId};
 use type_defs::Kind;
@@ -15,10 +15,18 @@ pub fn is_scope(arena: &Arena, node: NodeId) -> bool
     requires { node < length arena.now.forest.nodes }
     ensures { result ≡ is_scope arena.now.forest node }
 {
-    if extent_at(arena, node).is_some() {
+    if scope_kind_at(arena, node).is_scope() {
         return true;
     }
     is_named(arena, node)
+}
+
+/// Whether the scope is a program's.
+pub fn is_global(arena: &Arena, scope: &Scope) -> bool
+    requires { scope.now.owner < length arena.now.forest.nodes }
+    ensures { result ≡ is_global arena.now.forest scope.now }
+{
+    !scope.name && arena.kind(scope.owner) == Kind::Program
 }
 
 /// What a place belongs to, as far as its owner tells.
@@ -66,7 +74,7 @@ fn class_of(arena: &Arena, member: NodeId) -> Option<NodeId>
     let Some(body) = owner_of(arena, member) else {
         return Some(member);
     };
-    if arena.kind(body) != Kind::ClassBody.number() {
+    if arena.kind(body) != Kind::ClassBody {
         return Some(member);
     }
     owner_of(arena, body)
@@ -78,7 +86,7 @@ fn inside(arena: &Arena, owner: NodeId) -> Around
     ensures value { result ≡ inside arena.now.forest owner }
     ensures within { AroundIn arena.now.forest result }
 {
-    if extent_at(arena, owner).is_some() {
+    if scope_kind_at(arena, owner).is_scope() {
         return Around::Inside(Scope { owner, name: false });
     }
     if is_named(arena, owner) {
@@ -139,7 +147,7 @@ pub fn scope_of(arena: &Arena, place: PlaceId) -> Option<Scope>
     let Some(owner) = arena.node_at(place) else {
         return None;
     };
-    if arena.kind(owner) != Kind::Program.number() {
+    if arena.kind(owner) != Kind::Program {
         return None;
     }
     Some(Scope { owner, name: false })
@@ -153,7 +161,7 @@ pub fn outer(arena: &Arena, scope: &Scope) -> Option<Scope>
     ensures within { IfSome result (λ s. s.owner < length arena.now.forest.nodes) }
 {
     let owner = scope.owner;
-    if !scope.name && extent_at(arena, owner).is_some() && is_named(arena, owner) {
+    if !scope.name && scope_kind_at(arena, owner).is_scope() && is_named(arena, owner) {
         return Some(Scope { owner, name: true });
     }
     match arena.place_of(owner) {

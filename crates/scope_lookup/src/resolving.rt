@@ -1,12 +1,12 @@
 //! From a name to the scope and the place that declare it.
 
-ghost use Rattle.std.specs.Prelude.{◌≡◌, ◌<◌, length, All, IfOk, IfSome};
+ghost use Rattle.std.specs.Prelude.{◌≡◌, ◌<◌, length, is_some, All, IfOk, IfSome};
 ghost use Rattle.scope_lookup.specs.Resolve.{declaration, exports_own, find_from, first_named, is_name, is_reference, key_used, lookup_of, resolve_of};
 ghost use Rattle.node_arena.specs.Reads.{owner_at};
-ghost use Rattle.scope_lookup.specs.Modes.{name_at as name_at_of};
+ghost use Rattle.scope_lookup.specs.Scopings.{name_at as name_at_of};
 
 use crate::climbing::{outer, scope_of};
-use crate::reading::{is_computed, is_filled, name_at, role_at};
+use crate::node_roles::{is_computed, is_filled, name_at, role_at};
 use crate::scope::Scope;
 use crate::walk::declared;
 use node_arena::{Arena, PlaceId};
@@ -56,6 +56,19 @@ fn declaration(
 {
     let places = declared(alloc, arena, scope)?;
     Ok(first_named(arena, &places, name))
+}
+
+/// Whether the scope itself declares the name.
+pub fn declares(
+    alloc: Global,
+    arena: &Arena,
+    scope: &Scope,
+    name: &Units,
+) -> Result<bool, AllocError>
+    requires { scope.now.owner < length arena.now.forest.nodes }
+    ensures { IfOk result (λ b. b ≡ is_some (declaration arena.now name.now scope.now)) }
+{
+    Ok(declaration(alloc, arena, scope, name)?.is_some())
 }
 
 /// A scope, and the place in it that declares a name.

@@ -1,8 +1,8 @@
-//! The table of kinds: what the places of a slot are to scopes, and how far a kind's scope reaches.
+//! The table of scopes: what the places of each slot are to scopes, and which scope a kind has.
 
-ghost use Rattle.std.specs.Prelude.{◌≡◌, IfSome, ◌<◌};
-ghost use Rattle.scope_lookup.specs.Roles.{is_own_name, is_declared, is_parameter, is_body, is_variable, is_part, is_outside, is_key, is_word, is_exported, has_extent, is_whole, computed_in, computed_of as computed_of_kind, extent_in, extent_of as extent_of_kind, role_in, roles_of};
-ghost use Rattle.type_defs.specs.Fields.{scalar_count as scalars_of};
+ghost use Rattle.std.specs.Prelude.{◌≡◌, IsTrue, length, map};
+ghost use Rattle.type_defs.specs.Kinds.{are_in_order};
+ghost use Rattle.scope_lookup.specs.Roles.{computed_of, computed_scalars, has_scope, is_body, is_declared, is_exported, is_key, is_outside, is_own_name, is_parameter, is_part, is_variable, is_var_scope, is_word, role_in, role_lists, roles_of, scope_kind_of, scope_kinds, table_kinds};
 
 use type_defs::Kind;
 
@@ -33,17 +33,16 @@ pub enum Role {
     Exported,
 }
 
-/// How far the scope of a kind reaches.
+/// Which scope the nodes of a kind have.
 #[derive(Clone, Copy, Debug, PartialEq, Eq)]
-pub enum Extent {
-    /// The kind has no scope.
-    Nothing,
-    /// As `Lexical`, and nothing where the block is a function's body.
+pub enum ScopeKind {
+    NoScope,
+    /// As `Lexical`, and none where the block is a function's body.
     Block,
     /// It holds `let`, `const`, classes and functions; `var` goes through it.
     Lexical,
     /// It holds `var` too.
-    Whole,
+    Var,
 }
 
 impl Role {
@@ -108,117 +107,256 @@ impl Role {
     }
 }
 
-impl Extent {
-    /// Whether there is a scope.
-    pub fn is_some(self) -> bool
-        ensures { result ≡ has_extent self }
+impl ScopeKind {
+    pub fn is_scope(self) -> bool
+        ensures { result ≡ has_scope self }
     {
-        !matches!(self, Extent::Nothing)
+        !matches!(self, ScopeKind::NoScope)
     }
 
     /// Whether it holds `var` too.
-    pub fn is_whole(self) -> bool
-        ensures { result ≡ is_whole self }
+    pub fn is_var_scope(self) -> bool
+        ensures { result ≡ is_var_scope self }
     {
-        matches!(self, Extent::Whole)
+        matches!(self, ScopeKind::Var)
     }
 }
 
-/// The roles of a kind's first slots in their order; slots behind them are plain.
+/// A kind, the roles of its first slots in their order (slots behind them are plain), which scope
+/// its nodes have, and the number of the scalar that says whether the key is computed.
+pub type ScopeRow = (Kind, &'static [Role], ScopeKind, Option<u8>);
+
+/// A row for each kind, in the order of the enum.
+pub const SCOPES: &[ScopeRow] = &[
+    (Kind::Identifier, &[], ScopeKind::NoScope, None),
+    (Kind::Literal, &[], ScopeKind::NoScope, None),
+    (Kind::ThisExpression, &[], ScopeKind::NoScope, None),
+    (Kind::Super, &[], ScopeKind::NoScope, None),
+    (Kind::ArrayExpression, &[], ScopeKind::NoScope, None),
+    (Kind::ObjectExpression, &[], ScopeKind::NoScope, None),
+    (Kind::Property, &[Role::Key], ScopeKind::NoScope, Some(3)),
+    (
+        Kind::FunctionExpression,
+        &[Role::OwnName, Role::Parameter, Role::Body],
+        ScopeKind::Var,
+        None,
+    ),
+    (
+        Kind::ArrowFunctionExpression,
+        &[Role::Parameter, Role::Body],
+        ScopeKind::Var,
+        None,
+    ),
+    (
+        Kind::ClassExpression,
+        &[Role::OwnName, Role::Outside],
+        ScopeKind::NoScope,
+        None,
+    ),
+    (Kind::ClassBody, &[], ScopeKind::NoScope, None),
+    (
+        Kind::MethodDefinition,
+        &[Role::Key],
+        ScopeKind::NoScope,
+        Some(2),
+    ),
+    (Kind::TemplateLiteral, &[], ScopeKind::NoScope, None),
+    (Kind::TemplateElement, &[], ScopeKind::NoScope, None),
+    (
+        Kind::TaggedTemplateExpression,
+        &[],
+        ScopeKind::NoScope,
+        None,
+    ),
+    (
+        Kind::MemberExpression,
+        &[Role::Plain, Role::Key],
+        ScopeKind::NoScope,
+        Some(0),
+    ),
+    (Kind::CallExpression, &[], ScopeKind::NoScope, None),
+    (Kind::NewExpression, &[], ScopeKind::NoScope, None),
+    (Kind::ImportExpression, &[], ScopeKind::NoScope, None),
+    (Kind::ChainExpression, &[], ScopeKind::NoScope, None),
+    (Kind::MetaProperty, &[], ScopeKind::NoScope, None),
+    (Kind::UpdateExpression, &[], ScopeKind::NoScope, None),
+    (Kind::UnaryExpression, &[], ScopeKind::NoScope, None),
+    (Kind::AwaitExpression, &[], ScopeKind::NoScope, None),
+    (Kind::BinaryExpression, &[], ScopeKind::NoScope, None),
+    (Kind::LogicalExpression, &[], ScopeKind::NoScope, None),
+    (Kind::ConditionalExpression, &[], ScopeKind::NoScope, None),
+    (Kind::AssignmentExpression, &[], ScopeKind::NoScope, None),
+    (Kind::YieldExpression, &[], ScopeKind::NoScope, None),
+    (Kind::SequenceExpression, &[], ScopeKind::NoScope, None),
+    (Kind::SpreadElement, &[], ScopeKind::NoScope, None),
+    (Kind::ArrayPattern, &[Role::Part], ScopeKind::NoScope, None),
+    (Kind::ObjectPattern, &[Role::Part], ScopeKind::NoScope, None),
+    (
+        Kind::AssignmentProperty,
+        &[Role::Key, Role::Part],
+        ScopeKind::NoScope,
+        Some(1),
+    ),
+    (
+        Kind::AssignmentPattern,
+        &[Role::Part],
+        ScopeKind::NoScope,
+        None,
+    ),
+    (Kind::RestElement, &[Role::Part], ScopeKind::NoScope, None),
+    (Kind::Program, &[], ScopeKind::Var, None),
+    (Kind::Directive, &[], ScopeKind::NoScope, None),
+    (Kind::ExpressionStatement, &[], ScopeKind::NoScope, None),
+    (Kind::BlockStatement, &[], ScopeKind::Block, None),
+    (Kind::EmptyStatement, &[], ScopeKind::NoScope, None),
+    (Kind::DebuggerStatement, &[], ScopeKind::NoScope, None),
+    (Kind::WithStatement, &[], ScopeKind::NoScope, None),
+    (Kind::ReturnStatement, &[], ScopeKind::NoScope, None),
+    (
+        Kind::LabeledStatement,
+        &[Role::Word],
+        ScopeKind::NoScope,
+        None,
+    ),
+    (
+        Kind::BreakStatement,
+        &[Role::Word],
+        ScopeKind::NoScope,
+        None,
+    ),
+    (
+        Kind::ContinueStatement,
+        &[Role::Word],
+        ScopeKind::NoScope,
+        None,
+    ),
+    (Kind::IfStatement, &[], ScopeKind::NoScope, None),
+    (Kind::SwitchStatement, &[], ScopeKind::Lexical, None),
+    (Kind::SwitchCase, &[], ScopeKind::NoScope, None),
+    (Kind::ThrowStatement, &[], ScopeKind::NoScope, None),
+    (Kind::TryStatement, &[], ScopeKind::NoScope, None),
+    (
+        Kind::CatchClause,
+        &[Role::Parameter],
+        ScopeKind::Lexical,
+        None,
+    ),
+    (Kind::WhileStatement, &[], ScopeKind::NoScope, None),
+    (Kind::DoWhileStatement, &[], ScopeKind::NoScope, None),
+    (Kind::ForStatement, &[], ScopeKind::Lexical, None),
+    (Kind::ForInStatement, &[], ScopeKind::Lexical, None),
+    (Kind::ForOfStatement, &[], ScopeKind::Lexical, None),
+    (
+        Kind::VariableDeclaration,
+        &[Role::Variable],
+        ScopeKind::NoScope,
+        None,
+    ),
+    (
+        Kind::VariableDeclarator,
+        &[Role::Part],
+        ScopeKind::NoScope,
+        None,
+    ),
+    (
+        Kind::FunctionDeclaration,
+        &[Role::Declared, Role::Parameter, Role::Body],
+        ScopeKind::Var,
+        None,
+    ),
+    (
+        Kind::ClassDeclaration,
+        &[Role::Declared],
+        ScopeKind::NoScope,
+        None,
+    ),
+    (Kind::ImportDeclaration, &[], ScopeKind::NoScope, None),
+    (
+        Kind::ImportSpecifier,
+        &[Role::Word, Role::Declared],
+        ScopeKind::NoScope,
+        None,
+    ),
+    (
+        Kind::ImportDefaultSpecifier,
+        &[Role::Declared],
+        ScopeKind::NoScope,
+        None,
+    ),
+    (
+        Kind::ImportNamespaceSpecifier,
+        &[Role::Declared],
+        ScopeKind::NoScope,
+        None,
+    ),
+    (Kind::ExportNamedDeclaration, &[], ScopeKind::NoScope, None),
+    (
+        Kind::ExportSpecifier,
+        &[Role::Exported, Role::Word],
+        ScopeKind::NoScope,
+        None,
+    ),
+    (
+        Kind::ExportDefaultDeclaration,
+        &[],
+        ScopeKind::NoScope,
+        None,
+    ),
+    (
+        Kind::ExportAllDeclaration,
+        &[Role::Word],
+        ScopeKind::NoScope,
+        None,
+    ),
+    (
+        Kind::PropertyDefinition,
+        &[Role::Key],
+        ScopeKind::NoScope,
+        Some(0),
+    ),
+    (Kind::PrivateIdentifier, &[], ScopeKind::NoScope, None),
+    (Kind::StaticBlock, &[], ScopeKind::Var, None),
+];
+
+#[tactic(auto, unfolding(crate::specs::Roles::table_kinds, crate::specs::Roles::role_lists, crate::specs::Roles::scope_kinds, crate::specs::Roles::computed_scalars, type_defs::specs::Rows::in_order))]
+fn scope_rows() -> &'static [ScopeRow]
+    ensures count { length result.now ≡ 73 }
+    ensures order { IsTrue (are_in_order table_kinds) }
+    ensures kinds { map (λ row. row.0) result.now ≡ table_kinds }
+    ensures roles { map (λ row. row.1.now) result.now ≡ role_lists }
+    ensures scope_kinds { map (λ row. row.2) result.now ≡ scope_kinds }
+    ensures computed { map (λ row. row.3) result.now ≡ computed_scalars }
+{
+    SCOPES
+}
+
+/// The roles of a kind's first slots; those behind them are plain.
 fn roles(kind: Kind) -> &'static [Role]
     ensures { result.now ≡ roles_of kind }
 {
-    match kind {
-        Kind::FunctionExpression => &[Role::OwnName, Role::Parameter, Role::Body],
-        Kind::ArrowFunctionExpression => &[Role::Parameter, Role::Body],
-        Kind::FunctionDeclaration => &[Role::Declared, Role::Parameter, Role::Body],
-        Kind::ClassExpression => &[Role::OwnName, Role::Outside],
-        Kind::ClassDeclaration => &[Role::Declared],
-        Kind::CatchClause => &[Role::Parameter],
-        Kind::VariableDeclaration => &[Role::Variable],
-        Kind::VariableDeclarator => &[Role::Part],
-        Kind::ArrayPattern => &[Role::Part],
-        Kind::ObjectPattern => &[Role::Part],
-        Kind::AssignmentProperty => &[Role::Key, Role::Part],
-        Kind::AssignmentPattern => &[Role::Part],
-        Kind::RestElement => &[Role::Part],
-        Kind::Property => &[Role::Key],
-        Kind::MethodDefinition => &[Role::Key],
-        Kind::PropertyDefinition => &[Role::Key],
-        Kind::MemberExpression => &[Role::Plain, Role::Key],
-        Kind::LabeledStatement => &[Role::Word],
-        Kind::BreakStatement => &[Role::Word],
-        Kind::ContinueStatement => &[Role::Word],
-        Kind::ImportSpecifier => &[Role::Word, Role::Declared],
-        Kind::ImportDefaultSpecifier => &[Role::Declared],
-        Kind::ImportNamespaceSpecifier => &[Role::Declared],
-        Kind::ExportSpecifier => &[Role::Exported, Role::Word],
-        Kind::ExportAllDeclaration => &[Role::Word],
-        _ => &[],
-    }
+    scope_rows()[kind as usize].1
 }
 
-/// The role of a slot, by the numbers of the kind and the slot.
-pub fn slot_role(kind: u8, slot: u8) -> Role
+/// The role of a kind's slot.
+pub fn slot_role(kind: Kind, slot: u8) -> Role
     ensures { result ≡ role_in kind slot }
 {
-    let Some(kind) = Kind::from_number(kind) else {
-        return Role::Plain;
-    };
     match roles(kind).get(slot as usize) {
         None => Role::Plain,
         Some(role) => *role,
     }
 }
 
-fn kind_extent(kind: Kind) -> Extent
-    ensures { result ≡ extent_of_kind kind }
+/// Which scope the nodes of a kind have.
+pub fn scope_kind(kind: Kind) -> ScopeKind
+    ensures { result ≡ scope_kind_of kind }
 {
-    match kind {
-        Kind::Program => Extent::Whole,
-        Kind::FunctionExpression => Extent::Whole,
-        Kind::ArrowFunctionExpression => Extent::Whole,
-        Kind::FunctionDeclaration => Extent::Whole,
-        Kind::StaticBlock => Extent::Whole,
-        Kind::BlockStatement => Extent::Block,
-        Kind::ForStatement => Extent::Lexical,
-        Kind::ForInStatement => Extent::Lexical,
-        Kind::ForOfStatement => Extent::Lexical,
-        Kind::SwitchStatement => Extent::Lexical,
-        Kind::CatchClause => Extent::Lexical,
-        _ => Extent::Nothing,
-    }
-}
-
-/// How far the scope of the kind of a number reaches.
-pub fn extent_of(kind: u8) -> Extent
-    ensures { result ≡ extent_in kind }
-{
-    match Kind::from_number(kind) {
-        None => Extent::Nothing,
-        Some(kind) => kind_extent(kind),
-    }
-}
-
-fn kind_computed(kind: Kind) -> Option<u8>
-    ensures { result ≡ computed_of_kind kind }
-{
-    match kind {
-        Kind::Property => Some(3),
-        Kind::AssignmentProperty => Some(1),
-        Kind::MethodDefinition => Some(2),
-        Kind::PropertyDefinition => Some(0),
-        Kind::MemberExpression => Some(0),
-        _ => None,
-    }
+    scope_rows()[kind as usize].2
 }
 
 /// The scalar that says whether a kind's key is computed.
-pub fn computed_scalar(kind: u8) -> Option<u8>
-    ensures { result ≡ computed_in kind }
+pub fn computed_scalar(kind: Kind) -> Option<u8>
+    ensures { result ≡ computed_of kind }
 {
-    match Kind::from_number(kind) {
-        None => None,
-        Some(kind) => kind_computed(kind),
-    }
+    scope_rows()[kind as usize].3
 }

@@ -1,6 +1,6 @@
 //! Scopes of nodes without places.
 
-use crate::{Scope, bindings, is_scope, lookup, outer, resolve, scope_of};
+use crate::{Scope, bindings, declares, is_global, is_scope, lookup, outer, resolve, scope_of};
 use node_arena::{Arena, ArenaFault};
 use std::alloc::Global;
 use std::test::Fail;
@@ -10,7 +10,7 @@ use type_defs::Kind;
 // Whether a new node of the kind has a scope.
 fn has_scope(alloc: Global, kind: Kind) -> Result<bool, ArenaFault> {
     let mut arena = Arena::new(alloc)?;
-    let node = arena.make(kind.number())?;
+    let node = arena.make(kind)?;
     Ok(is_scope(&arena, node))
 }
 
@@ -33,11 +33,13 @@ fn tells_the_nodes_that_have_scopes(rt: HostRuntime) -> Result<(), Fail> {
 #[test]
 fn an_empty_program_declares_nothing(rt: HostRuntime) -> Result<(), Fail> {
     let mut arena = Arena::new(rt.alloc())?;
-    let owner = arena.make(Kind::Program.number())?;
+    let owner = arena.make(Kind::Program)?;
     let scope = Scope { owner, name: false };
     let name = Units::new(vec![in rt.alloc(); 97]?);
     assert!(rt; bindings(rt.alloc(), &arena, &scope)?.is_empty());
     assert!(rt; lookup(rt.alloc(), &arena, &scope, &name)?.is_none());
+    assert!(rt; !declares(rt.alloc(), &arena, &scope, &name)?);
+    assert!(rt; is_global(&arena, &scope));
     assert!(rt; outer(&arena, &scope).is_none());
     assert!(rt; scope_of(&arena, arena.root()).is_none());
     assert!(rt; resolve(rt.alloc(), &arena, arena.root())?.is_none());

@@ -7,6 +7,8 @@ use Rattle.js_lexer.specs.Scan.{scan}
 use Rattle.tree_core.specs.declared.span.Span.{Span}
 use Rattle.tree_core.specs.Syntax.{Syntax, node, Slots, no_slots, slot, Places, no_places, hole, place}
 use Rattle.tree_core.specs.View.{Row}
+use Rattle.type_defs.specs.declared.kind.Kind.{Kind}
+use Rattle.type_defs.specs.declared.kind.Kind.TheVariants.{ExportNamedDeclaration}
 use Rattle.source_rename.specs.declared.edits.Edit.{Edit}
 use Rattle.source_rename.specs.declared.exports.OpenEnd.{OpenEnd}
 use Rattle.source_rename.specs.declared.places.Spelling.TheVariants.{End}
@@ -52,9 +54,13 @@ abbrev pub span_of : List Span → Option ℕ → Option Span
 span_of spans None = None
 span_of spans (Some n) = slice_get spans n
 
--- the end of the tree, where it is an export of the module's own names (67 ExportNamedDeclaration) without a `;`
+abbrev pub exports_names : Kind → Bool
+exports_names ExportNamedDeclaration = true
+exports_names kind = false
+
+-- the end of the tree, where it is an export of the module's own names without a `;`
 abbrev pub open_end : List ℕ → List Span → Syntax → Option OpenEnd
-open_end s spans (node kind scalars slots notes from) = if (kind == 67) && lacks_both slots then open_at s (span_of spans from) else None
+open_end s spans (node kind scalars slots notes from) = if exports_names kind && lacks_both slots then open_at s (span_of spans from) else None
 
 abbrev pub known : Option OpenEnd → List OpenEnd
 known None = []

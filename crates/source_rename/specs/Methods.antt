@@ -1,11 +1,13 @@
 -- Methods whose kind is not the one of their key (ESTree, MethodDefinition; ECMA-262, clause 15.7.1).
-use Rattle.std.specs.Prelude.{ℕ, ◌+◌, Bool, false, ◌&&◌, ◌==◌, if◌then◌else◌, List, [], ◌∷◌, Option, Some, None, min, not, length, slice_get, codes}
+use Rattle.std.specs.Prelude.{ℕ, ◌+◌, Bool, true, false, ◌&&◌, ◌==◌, if◌then◌else◌, List, [], ◌∷◌, Option, Some, None, min, not, length, slice_get, codes}
 use Rattle.std.specs.Str.{bytes_eq}
 use Rattle.std.specs.Global.{Vec}
 use Rattle.tree_core.specs.declared.scalars.Scalar.{Scalar}
 use Rattle.tree_core.specs.declared.scalars.Scalar.TheVariants.{Truth}
 use Rattle.tree_core.specs.Syntax.{Syntax, node, Slots, no_slots, slot, Places, no_places, hole, place}
 use Rattle.tree_core.specs.View.{Row}
+use Rattle.type_defs.specs.declared.kind.Kind.{Kind}
+use Rattle.type_defs.specs.declared.kind.Kind.TheVariants.{MethodDefinition}
 use Rattle.first_rename.specs.Names.{is_named, is_text}
 
 abbrev pub steps_of : Option (Vec ℕ) → Option (List ℕ)
@@ -49,9 +51,13 @@ abbrev pub key_named : List ℕ → Slots → Bool
 key_named name no_slots = false
 key_named name (slot list places more) = holds_named name (list, places)
 
+abbrev pub is_method : Kind → Bool
+is_method MethodDefinition = true
+is_method kind = false
+
 -- a method that is no longer of the kind of its key once that is renamed
 abbrev pub is_bad : List ℕ → List ℕ → Syntax → Bool
-is_bad old new (node kind scalars slots notes from) = ((kind == 12) && is_wrong (wrong_kind new) scalars) && key_named old slots
+is_bad old new (node kind scalars slots notes from) = (is_method kind && is_wrong (wrong_kind new) scalars) && key_named old slots
 
 -- the number of the child behind this one; none has one above the largest step
 abbrev pub next : ℕ → ℕ

@@ -65,8 +65,8 @@ fn has_semicolon(bytes: &[u8], end: u32) -> bool
 fn open_end(search: &Search<'_>, tree: &Tree) -> Option<OpenEnd>
     ensures { result ≡ spec.open_end search.now.source.now search.now.spans.now (syntax tree.now) }
 {
-    let kind = Kind::ExportNamedDeclaration.number();
-    if !(tree.kind == kind && lacks_both(tree.slots.as_slice())) {
+    let exports_names = matches!(tree.kind, Kind::ExportNamedDeclaration);
+    if !(exports_names && lacks_both(tree.slots.as_slice())) {
         return None;
     }
     match span_of(search, tree.from) {

@@ -110,7 +110,7 @@ fn behind(slot: &Slot, number: u32) -> u32
 fn is_bad(names: &Names<'_>, tree: &Tree) -> bool
     ensures { result ≡ spec.is_bad names.now.old.now names.now.new.now (syntax tree.now) }
 {
-    tree.kind == Kind::MethodDefinition.number()
+    matches!(tree.kind, Kind::MethodDefinition)
         && is_wrong(wrong_kind(names.new), tree)
         && has_named_key(names.old, tree.slots.as_slice())
 }

@@ -10,7 +10,7 @@ use type_defs::Kind;
 pub fn is_named(tree: &Tree, name: &[u8]) -> bool
     ensures { result ≡ spec.is_named name.now tree.now.kind tree.now.scalars }
 {
-    if tree.kind != Kind::Identifier.number() || tree.scalars.len() != 1 {
+    if !matches!(tree.kind, Kind::Identifier) || tree.scalars.len() != 1 {
         return false;
     }
     match tree.scalars.get(0) {

@@ -1,7 +1,6 @@
 //! The places where a new name that is a word of the grammar would be read as something else.
 
 ghost use Rattle.std.specs.Prelude.{◌≡◌, slice_get};
-ghost use Rattle.js_lexer.specs.Cursors as cursors;
 ghost use Rattle.source_rename.specs.Exports as exports;
 ghost use Rattle.source_rename.specs.Seats as spec;
 
@@ -89,13 +88,11 @@ fn key_seat(word: Word, field: &Tree) -> Seat
 pub fn first_seat(word: Word, tree: &Tree) -> Seat
     ensures { result ≡ spec.first_seat word tree.now.kind tree.now.scalars }
 {
-    if tree.kind == Kind::ForOfStatement.number() {
-        return head_seat(word, truth_at(tree, 0));
+    match tree.kind {
+        Kind::ForOfStatement => head_seat(word, truth_at(tree, 0)),
+        Kind::PropertyDefinition => key_seat(word, tree),
+        _ => Seat::Free,
     }
-    if tree.kind == Kind::PropertyDefinition.number() {
-        return key_seat(word, tree);
-    }
-    Seat::Free
 }
 
 // The sort of the token behind the offset; the end where it is broken.
@@ -124,15 +121,6 @@ pub fn start_behind(source: &Source, at: u32) -> Option<u32>
     }
 }
 
-fn is_mark(kind: TokenKind, mark: Punctuator) -> bool
-    ensures { result ≡ cursors.is_mark kind mark }
-{
-    match kind {
-        TokenKind::Punctuator(found) => found.number() == mark.number(),
-        _ => false,
-    }
-}
-
 // Whether a key begins with the token.
 fn begins_key(kind: TokenKind) -> bool
     ensures { result ≡ spec.begins_key kind }
@@ -143,7 +131,7 @@ fn begins_key(kind: TokenKind) -> bool
         TokenKind::Number => true,
         TokenKind::BigInt => true,
         TokenKind::Private => true,
-        TokenKind::Punctuator(_) => is_mark(kind, Punctuator::OpenBracket),
+        TokenKind::Punctuator(_) => kind.is_punctuator(Punctuator::OpenBracket),
         _ => false,
     }
 }
@@ -152,9 +140,9 @@ fn begins_key(kind: TokenKind) -> bool
 fn ends_key(kind: TokenKind) -> bool
     ensures { result ≡ spec.ends_key kind }
 {
-    is_mark(kind, Punctuator::Semicolon)
-        || is_mark(kind, Punctuator::CloseBrace)
-        || is_mark(kind, Punctuator::Assign)
+    kind.is_punctuator(Punctuator::Semicolon)
+        || kind.is_punctuator(Punctuator::CloseBrace)
+        || kind.is_punctuator(Punctuator::Assign)
 }
 
 /// How the new name is spelled at the stretch of an identifier in this seat.
@@ -164,7 +152,7 @@ pub fn spelling_at(source: &Source, span: Span, seat: Seat) -> Spelling
     match seat {
         Seat::Free => Spelling::Name,
         Seat::Head => {
-            if is_mark(kind_behind(source, span.end), Punctuator::CloseParen) {
+            if kind_behind(source, span.end).is_punctuator(Punctuator::CloseParen) {
                 Spelling::Name
             } else {
                 Spelling::Grouped

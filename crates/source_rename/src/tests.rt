@@ -71,7 +71,7 @@ fn source_of(alloc: Global, text: &str) -> Result<Source, Fail> {
 // The name `a`, as the node of this number.
 fn named(alloc: Global, number: u32) -> Result<Place, AllocError> {
     let text = Scalars::one(Scalar::Text(Units::new(vec![in alloc; 97]?)));
-    let mut name = Tree::new(Kind::Identifier.number(), text, Items::new(alloc));
+    let mut name = Tree::new(Kind::Identifier, text, Items::new(alloc));
     name.from = Some(number);
     Place::filled(alloc, name)
 }
@@ -80,7 +80,7 @@ fn named(alloc: Global, number: u32) -> Result<Place, AllocError> {
 fn over_name(alloc: Global, kind: Kind, scalars: Scalars) -> Result<Tree, AllocError> {
     let mut slots = Items::new(alloc);
     slots.push(Slot::single(named(alloc, 1)?))?;
-    let mut tree = Tree::new(kind.number(), scalars, slots);
+    let mut tree = Tree::new(kind, scalars, slots);
     tree.from = Some(0);
     Ok(tree)
 }
@@ -127,16 +127,14 @@ fn export_and_name(alloc: Global) -> Result<Tree, AllocError> {
     slots.push(Slot::single(nothing()))?;
     slots.push(Slot::list(Items::new(alloc)))?;
     slots.push(Slot::single(nothing()))?;
-    let kind = Kind::ExportNamedDeclaration.number();
-    let mut export = Tree::new(kind, Scalars::new(), slots);
+    let mut export = Tree::new(Kind::ExportNamedDeclaration, Scalars::new(), slots);
     export.from = Some(1);
     let mut items = Items::new(alloc);
     items.push(Place::filled(alloc, export)?)?;
     items.push(named(alloc, 2)?)?;
     let mut slots = Items::new(alloc);
     slots.push(Slot::list(items))?;
-    let kind = Kind::Program.number();
-    Ok(Tree::new(kind, Scalars::new(), slots))
+    Ok(Tree::new(Kind::Program, Scalars::new(), slots))
 }
 
 #[test]

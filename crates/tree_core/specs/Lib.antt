@@ -7,4 +7,5 @@ pub mod Notes
 pub mod Numbers
 pub mod Stored
 pub mod Syntax
+pub mod Tests
 pub mod View

@@ -1,13 +1,14 @@
 -- A syntax tree as plain data: what contracts say of a `Tree` they say of this.
 use Rattle.std.specs.Prelude.{ℕ, Bool, List, Option}
+use Rattle.type_defs.specs.declared.kind.Kind.{Kind}
 use Rattle.tree_core.specs.declared.scalars.Scalar.{Scalar}
 use Rattle.tree_core.specs.Notes.{Notes}
 use Rattle.tree_core.specs.declared.tree.PlaceName.{PlaceName}
 
 mutual
-  -- a kind's number, scalars, slots, comments, and the number of the source node that it comes from
+  -- a kind, scalars, slots, comments, and the number of the source node that it comes from
   pub data Syntax : Type 0 where
-    node : ℕ → List Scalar → Slots → Notes → Option ℕ → Syntax
+    node : Kind → List Scalar → Slots → Notes → Option ℕ → Syntax
 
   -- slots in order; the truth says whether the slot is a list
   pub data Slots : Type 0 where

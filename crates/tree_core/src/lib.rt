@@ -27,4 +27,4 @@ pub use sameness::same;
 pub use scalars::{Scalar, Scalars};
 pub use span::{CommentSpans, Parsed, Span, Spans};
 pub use tree::{Place, PlaceName, Slot, Tree};
-pub use units::Units;
+pub use units::{Units, are_bytes};

@@ -15,7 +15,7 @@ use crate::tree::{Place, Slot, Tree};
 pub fn same(a: &Tree, b: &Tree) -> bool
     ensures { IsTrue result ↔ (bare (syntax a.now) ≡ bare (syntax b.now)) }
 {
-    if a.kind != b.kind || !same_scalars(&a.scalars, &b.scalars) {
+    if !a.kind.is(b.kind) || !same_scalars(&a.scalars, &b.scalars) {
         return false;
     }
     same_notes(&a.notes, &b.notes) && same_slots(a.slots.as_slice(), b.slots.as_slice())

@@ -2,6 +2,7 @@
 
 ghost use Rattle.std.specs.Prelude.{◌≡◌, [], ◌∷◌, ◌++◌, length, slice_get, IfOk, OnOk};
 ghost use Rattle.std.specs.Option.{option_copied};
+ghost use Rattle.tree_core.specs.Tests.{is_text, is_truth, is_null, is_text_at, is_truth_at, is_null_at};
 
 use crate::units::Units;
 use sqlite_items::Items;
@@ -14,6 +15,38 @@ pub enum Scalar {
     Text(Units),
     Truth(bool),
     Null,
+}
+
+impl Scalar {
+    /// Whether the scalar is the text whose code units are, as numbers, these bytes.
+    pub fn is_text(&self, text: &[u8]) -> bool
+        ensures { result ≡ is_text text.now self.now }
+    {
+        match self {
+            Scalar::Text(units) => units.is(text),
+            Scalar::Truth(_) | Scalar::Null => false,
+        }
+    }
+
+    /// Whether the scalar is this truth.
+    pub fn is_truth(&self, truth: bool) -> bool
+        ensures { result ≡ is_truth truth self.now }
+    {
+        match self {
+            Scalar::Truth(found) => *found == truth,
+            Scalar::Text(_) | Scalar::Null => false,
+        }
+    }
+
+    /// Whether the scalar is the absence of a value.
+    pub fn is_null(&self) -> bool
+        ensures { result ≡ is_null self.now }
+    {
+        match self {
+            Scalar::Null => true,
+            Scalar::Text(_) | Scalar::Truth(_) => false,
+        }
+    }
 }
 
 #[derive(Debug, Drop)]
@@ -91,6 +124,36 @@ impl Scalars {
                 None
             }
             Held::Many(all) => all.get(at),
+        }
+    }
+
+    /// Whether there is a scalar of this number, and it is the ASCII text.
+    pub fn is_text_at(&self, at: usize, text: &str) -> bool
+        ensures { result ≡ is_text_at text.now (slice_get self.now at) }
+    {
+        match self.get(at) {
+            Some(scalar) => scalar.is_text(text.as_bytes()),
+            None => false,
+        }
+    }
+
+    /// Whether there is a scalar of this number, and it is this truth.
+    pub fn is_truth_at(&self, at: usize, truth: bool) -> bool
+        ensures { result ≡ is_truth_at truth (slice_get self.now at) }
+    {
+        match self.get(at) {
+            Some(scalar) => scalar.is_truth(truth),
+            None => false,
+        }
+    }
+
+    /// Whether there is a scalar of this number, and it is the absence of a value.
+    pub fn is_null_at(&self, at: usize) -> bool
+        ensures { result ≡ is_null_at (slice_get self.now at) }
+    {
+        match self.get(at) {
+            Some(scalar) => scalar.is_null(),
+            None => false,
         }
     }
 

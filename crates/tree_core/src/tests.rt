@@ -4,24 +4,25 @@ use crate::{Address, Place, Scalar, Scalars, Slot, Tree, Units, at, copy, height
 use sqlite_items::Items;
 use std::alloc::{AllocError, Global};
 use std::test::Fail;
+use type_defs::Kind;
 
 // A place with a node whose only scalar is a text of one code unit.
-fn leaf(alloc: Global, kind: u8) -> Result<Place, AllocError> {
+fn leaf(alloc: Global, kind: Kind) -> Result<Place, AllocError> {
     let text = Units::new(vec![in alloc; 97]?);
     let scalars = Scalars::one(Scalar::Text(text));
     Place::filled(alloc, Tree::new(kind, scalars, Items::new(alloc)))
 }
 
-// A place with a node of kind 3 over one of kind 4.
+// A place with a spread element over `super`.
 fn branch(alloc: Global) -> Result<Place, AllocError> {
     let mut slots = Items::new(alloc);
-    slots.push(Slot::single(leaf(alloc, 4)?))?;
-    Place::filled(alloc, Tree::new(3, Scalars::new(), slots))
+    slots.push(Slot::single(leaf(alloc, Kind::Super)?))?;
+    Place::filled(alloc, Tree::new(Kind::SpreadElement, Scalars::new(), slots))
 }
 
 fn list(alloc: Global) -> Result<Slot, AllocError> {
     let mut places = Items::new(alloc);
-    places.push(leaf(alloc, 2)?)?;
+    places.push(leaf(alloc, Kind::Literal)?)?;
     places.push(Place {
         name: None,
         node: None,
@@ -30,26 +31,26 @@ fn list(alloc: Global) -> Result<Slot, AllocError> {
     Ok(Slot::list(places))
 }
 
-// A node of kind 10: a place with a node of kind 1, and a list of three places, with a node of
-// kind 2, with none, and with a node of kind 3 over one of kind 4.
+// A call: a place with an identifier, and a list of three places, with a literal, with nothing, and
+// with a spread element over `super`.
 fn sample(alloc: Global) -> Result<Tree, AllocError> {
     let mut slots = Items::new(alloc);
-    slots.push(Slot::single(leaf(alloc, 1)?))?;
+    slots.push(Slot::single(leaf(alloc, Kind::Identifier)?))?;
     slots.push(list(alloc)?)?;
-    Ok(Tree::new(10, Scalars::new(), slots))
+    Ok(Tree::new(Kind::CallExpression, Scalars::new(), slots))
 }
 
 #[test]
 fn walks_a_small_tree(rt: HostRuntime) -> Result<(), Fail> {
     let alloc = rt.alloc();
     let tree = sample(alloc)?;
-    let cases: [(&[u32], Option<u8>); 8] = [
-        (&[], Some(10)),
-        (&[0], Some(1)),
-        (&[1], Some(2)),
+    let cases: [(&[u32], Option<Kind>); 8] = [
+        (&[], Some(Kind::CallExpression)),
+        (&[0], Some(Kind::Identifier)),
+        (&[1], Some(Kind::Literal)),
         (&[2], None),
-        (&[3], Some(3)),
-        (&[3, 0], Some(4)),
+        (&[3], Some(Kind::SpreadElement)),
+        (&[3, 0], Some(Kind::Super)),
         (&[3, 0, 0], None),
         (&[4], None),
     ];
@@ -70,7 +71,7 @@ fn compares_a_copy(rt: HostRuntime) -> Result<(), Fail> {
     assert!(rt; same(&tree, &other));
     other.from = Some(7);
     assert!(rt; same(&tree, &other), "another number");
-    other.kind = 11;
+    other.kind = Kind::NewExpression;
     assert!(rt; !same(&tree, &other), "another kind");
     Ok(())
 }

@@ -8,6 +8,7 @@ use crate::comment::Notes;
 use crate::scalars::Scalars;
 use sqlite_items::Items;
 use std::alloc::{AllocError, Global};
+use type_defs::Kind;
 
 /// The name of a place of the source: its node's number, and its number among that node's places.
 #[derive(Clone, Copy, Debug, PartialEq, Eq)]
@@ -20,8 +21,7 @@ pub struct PlaceName {
 #[cycle(tree)]
 #[derive(Drop)]
 pub struct Tree {
-    /// The kind's number.
-    pub kind: u8,
+    pub kind: Kind,
     pub scalars: Scalars,
     /// In the order of the kind's fields.
     pub slots: Items<Slot>,
@@ -76,7 +76,7 @@ impl Slot {
 
 impl Tree {
     /// A node without comments and without a number.
-    pub fn new(kind: u8, scalars: Scalars, slots: Items<Slot>) -> Tree
+    pub fn new(kind: Kind, scalars: Scalars, slots: Items<Slot>) -> Tree
         ensures { syntax result ≡ node kind scalars (slots_of (map slot_view slots)) (record { lead = []; trail = []; inner = [] }) None }
     {
         Tree {

@@ -148,15 +148,21 @@ impl Units {
     pub fn is(&self, text: &[u8]) -> bool
         ensures { result ≡ bytes_eq self.now text.now }
     {
-        let units = self.get();
-        if units.len() != text.len() {
+        are_bytes(self.get(), text)
+    }
+}
+
+/// Whether the code units are, as numbers, these bytes.
+pub fn are_bytes(units: &[u16], text: &[u8]) -> bool
+    ensures { result ≡ bytes_eq units.now text.now }
+{
+    if units.len() != text.len() {
+        return false;
+    }
+    for at in 0..units.len() {
+        if units[at] != u16::from(text[at]) {
             return false;
         }
-        for at in 0..units.len() {
-            if units[at] != u16::from(text[at]) {
-                return false;
-            }
-        }
-        true
     }
+    true
 }

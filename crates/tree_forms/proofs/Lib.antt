@@ -1,4 +1,2 @@
+pub mod LinkLemmas
 pub mod InSlots
-pub mod Kids
-pub mod Told
-pub mod Turns

@@ -1,19 +1,21 @@
 -- Which form spells a tree: by its kind, its scalars, what stands in its slots, and what its place takes
 -- (ESTree; ECMA-262, clauses 12 to 16).
-use Rattle.std.specs.Prelude.{ℕ, ◌==◌, Bool, true, false, ◌||◌, List, [], ◌∷◌, codes, Option, Some, None, slice_get, if◌then◌else◌}
+use Rattle.std.specs.Prelude.{ℕ, ◌&&◌, Bool, true, false, List, [], ◌∷◌, codes, Option, Some, None, slice_get, if◌then◌else◌}
 use Rattle.std.specs.Option.{option_map, option_and_then}
 use Rattle.tree_core.specs.declared.scalars.Scalar.{Scalar}
 use Rattle.tree_core.specs.Syntax.{Syntax, node}
-use Rattle.type_defs.specs.Kinds.{number_of, kind_at}
 use Rattle.type_defs.specs.declared.kind.Kind.{Kind}
 use Rattle.type_defs.specs.declared.kind.Kind.TheVariants as k
-use Rattle.js_forms.specs.Fixed.{scalars}
+use Rattle.js_forms.specs.Table.{first_pieces}
 use Rattle.js_forms.specs.Forms.{flow_with}
-use Rattle.js_forms.specs.Levels.{level}
-use Rattle.js_forms.specs.Operators.{operator_spelling}
+use Rattle.js_forms.specs.declared.piece.Spelling.{Spelling}
+use Rattle.js_forms.specs.declared.piece.Spelling.TheVariants as v
+use Rattle.js_forms.specs.Operators.{Row, has_role, operators, operator_spelling}
 use Rattle.js_forms.specs.declared.category.Category.{Category}
 use Rattle.js_forms.specs.declared.category.Category.TheVariants as c
 use Rattle.js_forms.specs.declared.operator.Operator.{Operator}
+use Rattle.js_forms.specs.declared.operator.Role.{Role}
+use Rattle.js_forms.specs.declared.operator.Role.TheVariants as role
 use Rattle.js_forms.specs.declared.form.Access.TheVariants as a
 use Rattle.js_forms.specs.declared.form.Flow.{Flow}
 use Rattle.js_forms.specs.declared.form.Flow.TheVariants as fl
@@ -26,20 +28,18 @@ use Rattle.js_forms.specs.declared.form.Sort.TheVariants as sort
 use Rattle.js_forms.specs.declared.form.Standing.{Standing}
 use Rattle.js_forms.specs.declared.form.Standing.TheVariants as standing
 use Rattle.js_forms.specs.declared.form.Variable.{Variable}
-use Rattle.js_forms.specs.declared.form.Variable.TheVariants as v
+use Rattle.js_forms.specs.declared.form.Variable.TheVariants as word
 use Rattle.js_forms.specs.declared.form.Form.{Form}
 use Rattle.js_forms.specs.declared.form.Form.TheVariants as f
-use Rattle.tree_forms.specs.declared.choosing.TheConstants.{UPDATES, UNARIES, BINARIES, LOGICALS, ASSIGNMENTS}
-use Rattle.tree_forms.specs.declared.slot_def.Variant.{Variant}
-use Rattle.tree_forms.specs.declared.slot_def.SlotCategory.{SlotCategory}
-use Rattle.tree_forms.specs.declared.slot_def.SlotCategory.TheVariants as t
-use Rattle.tree_forms.specs.Reading.{is_text_at, is_truth_at, begins, scalars_of, child}
-use Rattle.tree_forms.specs.Shapes.{same_flow}
+use Rattle.tree_forms.specs.declared.variant.Variant.{Variant}
+use Rattle.tree_core.specs.Tests.{is_text_at, is_truth_at}
+use Rattle.tree_forms.specs.Reading.{begins, scalars_of, child, second_child}
+use Rattle.spelling_rules.specs.Shapes.{same_flow}
 
--- the first of the operators that the scalar spells
-abbrev pub operator_in : List Operator → Option Scalar → Option Operator
-operator_in [] found = None
-operator_in (operator ∷ more) found = if is_text_at (operator_spelling operator) found then Some operator else operator_in more found
+-- the first operator of such expressions that the scalar spells
+abbrev pub operator_in : List Row → Role → Option Scalar → Option Operator
+operator_in [] one found = None
+operator_in (row ∷ more) one found = if has_role row.1 row.2 one && is_text_at (operator_spelling row.0) found then Some row.0 else operator_in more one found
 
 abbrev pub key_at : Option Scalar → Key
 key_at found = if is_truth_at true found then key.Computed else key.Plain
@@ -72,7 +72,7 @@ sort_in found =
     (if is_truth_at true (slice_get found 1) then sort.True else sort.False)))))
 
 abbrev pub variable_in : List Scalar → Variable
-variable_in found = if is_text_at (codes "var") (slice_get found 0) then v.Var else (if is_text_at (codes "let") (slice_get found 0) then v.Let else v.Const)
+variable_in found = if is_text_at (codes "var") (slice_get found 0) then word.Var else (if is_text_at (codes "let") (slice_get found 0) then word.Let else word.Const)
 
 -- by `kind`, `method`, `shorthand` and `computed`
 abbrev pub property : Syntax → Form
@@ -119,42 +119,34 @@ any_name_at c.ObjectKey = true
 any_name_at c.ClassKey = true
 any_name_at _ = false
 
-abbrev pub takes_any_name : SlotCategory → Bool
-takes_any_name (t.Usual category) = any_name_at category
-takes_any_name _ = false
-
-abbrev pub name : SlotCategory → Form
-name category = if takes_any_name category then f.AnyName else f.Name
+abbrev pub name : Category → Form
+name category = if any_name_at category then f.AnyName else f.Name
 
 -- the value of an accessor, which is a plain function
 abbrev pub accessor : Form → Flow → Form
 accessor value fl.Plain = value
 accessor value flow = f.Function flow
 
+-- a function that runs so, as the value of a method or by itself
 abbrev pub method_value : Category → Flow → Form
 method_value (c.Method wanted) flow = if same_flow wanted flow then f.MethodValue flow else f.Function flow
 method_value c.Getter flow = accessor f.GetterValue flow
 method_value c.Setter flow = accessor f.SetterValue flow
 method_value _ flow = f.Function flow
 
--- a function that runs so, as the value of a method or by itself
-abbrev pub function : SlotCategory → Flow → Form
-function (t.Usual category) flow = method_value category flow
-function _ flow = f.Function flow
-
-abbrev pub rest : SlotCategory → Form
-rest (t.Usual c.BindingProperty) = f.NameRest
-rest (t.Assigned c.BindingProperty) = f.NameRest
+abbrev pub rest : Category → Form
+rest c.BindingProperty = f.NameRest
+rest c.AssignedProperty = f.NameRest
 rest _ = f.Rest
 
-abbrev pub block : SlotCategory → Form
-block (t.Usual c.FunctionBody) = f.FunctionBody
-block t.ArrowBody = f.FunctionBody
+abbrev pub block : Category → Form
+block c.FunctionBody = f.FunctionBody
+block c.ArrowBody = f.FunctionBody
 block _ = f.Block
 
-abbrev pub variables : SlotCategory → Variable → Form
-variables t.ForInit variable = f.HeadVariables variable
-variables (t.ForLeft _) variable = f.HeadVariables variable
+abbrev pub variables : Category → Variable → Form
+variables c.ForInit variable = f.HeadVariables variable
+variables c.ForLeft variable = f.HeadVariables variable
 variables _ variable = f.Variables variable
 
 abbrev pub case : Syntax → Form
@@ -172,31 +164,39 @@ export_specifier found = if is_truth_at true (slice_get found 0) then f.ExportSh
 abbrev pub export_named : Syntax → Form
 export_named x = by_child (child 0 x) f.ExportDeclaration f.ExportNames
 
--- of one of two kinds
-abbrev pub is_either : Kind → Kind → Syntax → Bool
-is_either one other (node kind found slots notes from) = (kind == number_of one) || (kind == number_of other)
+-- the node declares a function or a class
+abbrev pub is_function_or_class : Syntax → Bool
+is_function_or_class (node k.FunctionDeclaration found slots notes from) = true
+is_function_or_class (node k.ClassDeclaration found slots notes from) = true
+is_function_or_class _ = false
 
-abbrev pub is_either_some : Kind → Kind → Option Syntax → Bool
-is_either_some one other (Some x) = is_either one other x
-is_either_some one other None = false
+-- the node is a pattern in brackets or braces
+abbrev pub is_pattern : Syntax → Bool
+is_pattern (node k.ArrayPattern found slots notes from) = true
+is_pattern (node k.ObjectPattern found slots notes from) = true
+is_pattern _ = false
+
+abbrev pub holds : (Syntax → Bool) → Option Syntax → Bool
+holds test (Some x) = test x
+holds test None = false
 
 abbrev pub export_default : Syntax → Form
-export_default x = if is_either_some k.FunctionDeclaration k.ClassDeclaration (child 0 x) then f.ExportDefaultDeclaration else f.ExportDefault
+export_default x = if holds is_function_or_class (child 0 x) then f.ExportDefaultDeclaration else f.ExportDefault
 
 abbrev pub update : Bool → Operator → Form
 update prefix operator = if prefix then f.Prefix operator else f.Postfix operator
 
 -- the form of an expression that has an operator
 abbrev pub operation : Kind → List Scalar → Option Form
-operation k.UpdateExpression found = option_map (update (is_truth_at true (slice_get found 1))) (operator_in UPDATES (slice_get found 0))
-operation k.UnaryExpression found = option_map f.Unary (operator_in UNARIES (slice_get found 0))
-operation k.BinaryExpression found = option_map f.Binary (operator_in BINARIES (slice_get found 0))
-operation k.LogicalExpression found = option_map f.Logical (operator_in LOGICALS (slice_get found 0))
-operation k.AssignmentExpression found = option_map f.Assignment (operator_in ASSIGNMENTS (slice_get found 0))
+operation k.UpdateExpression found = option_map (update (is_truth_at true (slice_get found 1))) (operator_in operators role.Update (slice_get found 0))
+operation k.UnaryExpression found = option_map f.Unary (operator_in operators role.Unary (slice_get found 0))
+operation k.BinaryExpression found = option_map f.Binary (operator_in operators role.Binary (slice_get found 0))
+operation k.LogicalExpression found = option_map f.Logical (operator_in operators role.Logical (slice_get found 0))
+operation k.AssignmentExpression found = option_map f.Assignment (operator_in operators role.Assignment (slice_get found 0))
 operation _ found = None
 
 -- the form of an expression, a pattern or a part of one
-abbrev pub expression : Kind → SlotCategory → Syntax → Option Form
+abbrev pub expression : Kind → Category → Syntax → Option Form
 expression k.Identifier category x = Some (name category)
 expression k.Literal category x = Some (f.Literal (sort_in (scalars_of x)))
 expression k.ThisExpression category x = Some f.This
@@ -204,7 +204,7 @@ expression k.Super category x = Some f.Super
 expression k.ArrayExpression category x = Some f.Array
 expression k.ObjectExpression category x = Some f.Object
 expression k.Property category x = Some (property x)
-expression k.FunctionExpression category x = Some (function category (flow_in (scalars_of x)))
+expression k.FunctionExpression category x = Some (method_value category (flow_in (scalars_of x)))
 expression k.ArrowFunctionExpression category x = Some (arrow (scalars_of x))
 expression k.ClassExpression category x = Some f.Class
 expression k.ClassBody category x = Some f.ClassBody
@@ -246,7 +246,7 @@ module_item k.ExportAllDeclaration x = Some f.ExportAll
 module_item _ x = None
 
 -- the form of the kind
-abbrev pub chosen : Kind → SlotCategory → Syntax → Option Form
+abbrev pub chosen : Kind → Category → Syntax → Option Form
 chosen k.Program category x = Some f.Program
 chosen k.Directive category x = Some f.Directive
 chosen k.ExpressionStatement category x = Some f.ExpressionStatement
@@ -291,57 +291,87 @@ declares_at c.BindingValue = true
 declares_at c.BindingProperty = true
 declares_at _ = false
 
-abbrev pub declares : SlotCategory → Bool
-declares (t.Usual category) = declares_at category
-declares _ = false
+-- the spelling of a pattern or of a part of one
+abbrev pub pattern_spelling : Category → Spelling
+pattern_spelling category = if declares_at category then v.Declares else v.Assigns
 
--- the spelling of a pattern or of a part of one: 0 that declares, 1 that assigns
-abbrev pub pattern_spelling : SlotCategory → ℕ
-pattern_spelling category = if declares category then 0 else 1
-
--- the same of a default, 2 in a shorthand
-abbrev pub default_spelling : SlotCategory → ℕ
-default_spelling t.ShortValue = 2
+abbrev pub default_spelling : Category → Spelling
+default_spelling c.ShortValue = v.Short
 default_spelling category = pattern_spelling category
 
--- any escapes may stand behind a tag
-abbrev pub template_spelling : SlotCategory → ℕ
-template_spelling (t.Usual c.Template) = 0
-template_spelling _ = 19
+abbrev pub template_spelling : Category → Spelling
+template_spelling c.Template = v.Tagged
+template_spelling _ = v.Usual
 
-abbrev pub head_spelling : SlotCategory → ℕ
-head_spelling (t.ForLeft _) = 1
-head_spelling _ = 0
+abbrev pub head_spelling : Category → Spelling
+head_spelling c.ForLeft = v.BeforeLoop
+head_spelling _ = v.Usual
 
-abbrev pub declaration_spelling : SlotCategory → ℕ
-declaration_spelling t.DefaultDeclaration = 1
-declaration_spelling _ = 0
+abbrev pub declaration_spelling : Category → Spelling
+declaration_spelling c.DefaultDeclaration = v.Default
+declaration_spelling _ = v.Usual
 
-abbrev pub export_spelling : SlotCategory → ℕ
-export_spelling t.OwnExport = 1
-export_spelling _ = 0
+abbrev pub export_spelling : Category → Spelling
+export_spelling c.OwnExport = v.WithoutSource
+export_spelling _ = v.Usual
 
-abbrev pub by_source : Option Syntax → ℕ
-by_source (Some x) = 0
-by_source None = 1
+abbrev pub by_source : Option Syntax → Spelling
+by_source (Some x) = v.Usual
+by_source None = v.WithoutSource
 
--- an export of names with a source (0), or without
-abbrev pub names_spelling : Syntax → ℕ
+-- an export of names
+abbrev pub names_spelling : Syntax → Spelling
 names_spelling x = by_source (child 2 x)
 
--- a declarator of a name (0) or of a pattern
-abbrev pub declared_spelling : Syntax → ℕ
-declared_spelling x = if is_either_some k.ArrayPattern k.ObjectPattern (child 0 x) then 1 else 0
+abbrev pub declared_spelling : Syntax → Spelling
+declared_spelling x = if holds is_pattern (child 0 x) then v.PatternAlone else v.NameAlone
 
-abbrev pub by_value : Option Syntax → ℕ → ℕ
-by_value (Some x) other = 2
+abbrev pub by_value : Option Syntax → Spelling → Spelling
+by_value (Some x) other = v.WithValue
 by_value None other = other
 
--- the same, or one with a value
-abbrev pub declarator_spelling : Syntax → ℕ
+abbrev pub declarator_spelling : Syntax → Spelling
 declarator_spelling x = by_value (child 1 x) (declared_spelling x)
 
-abbrev pub spelling : Form → SlotCategory → Syntax → ℕ
+-- the text of a key that is a name
+abbrev pub is_name_spelled : List ℕ → Option Syntax → Bool
+is_name_spelled text (Some (node k.Identifier found slots notes from)) = is_text_at text (slice_get found 0)
+is_name_spelled text _ = false
+
+abbrev pub static_spelling : Standing → Spelling
+static_spelling standing.Instance = v.StaticName
+static_spelling standing.Static = v.Usual
+
+-- a field without a value, by its key, which is not computed
+abbrev pub named_spelling : Standing → Option Syntax → Spelling
+named_spelling place key =
+    if is_name_spelled (codes "get") key then v.AccessorName else
+    (if is_name_spelled (codes "set") key then v.AccessorName else
+    (if is_name_spelled (codes "static") key then static_spelling place else v.Usual))
+
+abbrev pub keyed_spelling : Standing → Key → Option Syntax → Spelling
+keyed_spelling place key.Computed x = v.Usual
+keyed_spelling place key.Plain x = named_spelling place x
+
+abbrev pub field_spelling : Standing → Key → Syntax → Spelling
+field_spelling place key x = by_value (child 1 x) (keyed_spelling place key (child 0 x))
+
+-- an import, by its first two specifiers
+abbrev pub behind_default : Option Syntax → Spelling
+behind_default None = v.DefaultAlone
+behind_default (Some (node k.ImportNamespaceSpecifier found slots notes from)) = v.DefaultAndNamespace
+behind_default (Some x) = v.DefaultAndNames
+
+abbrev pub specifiers_spelling : Option Syntax → Option Syntax → Spelling
+specifiers_spelling None second = v.Usual
+specifiers_spelling (Some (node k.ImportDefaultSpecifier found slots notes from)) second = behind_default second
+specifiers_spelling (Some (node k.ImportNamespaceSpecifier found slots notes from)) second = v.Namespace
+specifiers_spelling (Some x) second = v.Names
+
+abbrev pub import_spelling : Syntax → Spelling
+import_spelling x = specifiers_spelling (child 0 x) (second_child 0 x)
+
+abbrev pub spelling : Form → Category → Syntax → Spelling
 spelling f.ArrayPattern category x = pattern_spelling category
 spelling f.ObjectPattern category x = pattern_spelling category
 spelling (f.PatternProperty _) category x = pattern_spelling category
@@ -349,7 +379,7 @@ spelling f.Rest category x = pattern_spelling category
 spelling f.NameRest category x = pattern_spelling category
 spelling f.Default category x = default_spelling category
 spelling f.Template category x = template_spelling category
-spelling (f.Field _ _) category x = 0
+spelling (f.Field place key) category x = field_spelling place key x
 spelling f.Declarator category x = declarator_spelling x
 spelling (f.HeadVariables _) category x = head_spelling category
 spelling (f.FunctionDeclaration _) category x = declaration_spelling category
@@ -357,18 +387,19 @@ spelling f.ClassDeclaration category x = declaration_spelling category
 spelling f.ExportNames category x = names_spelling x
 spelling f.ExportSpecifier category x = export_spelling category
 spelling f.ExportShorthand category x = export_spelling category
-spelling form category x = level form
+spelling f.Import category x = import_spelling x
+spelling _ category x = v.Usual
 
 -- the scalars that the form determines are those with which the node's begin
 abbrev pub has_scalars : Form → Syntax → Bool
-has_scalars form x = begins (scalars form) (scalars_of x)
+has_scalars form x = begins form (first_pieces form) 0 (scalars_of x)
 
-abbrev pub fitting : SlotCategory → Syntax → Form → Option Variant
+abbrev pub fitting : Category → Syntax → Form → Option Variant
 fitting category x form = if has_scalars form x then Some (record { form = form; spelling = spelling form category x }) else None
 
-abbrev pub form_of_kind : SlotCategory → Syntax → Kind → Option Variant
+abbrev pub form_of_kind : Category → Syntax → Kind → Option Variant
 form_of_kind category x kind = option_and_then (fitting category x) (chosen kind category x)
 
 -- the form that made text gives the tree at a place that takes this
-abbrev pub form : SlotCategory → Syntax → Option Variant
-form category (node kind found slots notes from) = option_and_then (form_of_kind category (node kind found slots notes from)) (kind_at kind)
+abbrev pub form : Category → Syntax → Option Variant
+form category (node kind found slots notes from) = form_of_kind category (node kind found slots notes from) kind

@@ -1,125 +1,72 @@
 -- What a tree is at its left end: its level, and the comments that come to stand there. The level of a
 -- member or a tagged template is 17 where its first child has that level and stands in no parentheses
 -- (ECMA-262, clauses 13.2 to 13.16).
-use Rattle.std.specs.Prelude.{ℕ, ◌==◌, Bool, true, false, not, ◌&&◌, ◌||◌, List, [], ◌∷◌, Option, Some, None, if◌then◌else◌}
+use Rattle.std.specs.Prelude.{ℕ, ◌==◌, ◌+◌, min, Bool, true, false, not, ◌&&◌, ◌||◌, List, [], ◌∷◌, Option, Some, None, if◌then◌else◌}
 use Rattle.tree_core.specs.declared.comment.Comment.{Comment}
 use Rattle.tree_core.specs.Syntax.{Syntax, node, Slots, no_slots, slot, Places, no_places, hole, place}
 use Rattle.type_defs.specs.Groups.{is_a}
-use Rattle.js_forms.specs.Levels as table
+use Rattle.type_defs.specs.declared.kind.Kind.{Kind}
+use Rattle.type_defs.specs.declared.groups.Group.TheVariants.{Expression}
+use Rattle.type_defs.specs.declared.groups.NodeType.TheVariants.{Group}
+use Rattle.js_forms.specs.Forms.{is_optional}
+use Rattle.js_forms.specs.Levels.{spelled_level}
+use Rattle.js_forms.specs.declared.levels.TheConstants.{CALL, MEMBER, PRIMARY}
+use Rattle.js_forms.specs.declared.piece.Place.{Place}
 use Rattle.js_forms.specs.declared.category.Category.{Category}
 use Rattle.js_forms.specs.declared.category.Category.TheVariants as c
-use Rattle.js_forms.specs.declared.form.Access.{Access}
-use Rattle.js_forms.specs.declared.form.Access.TheVariants as a
-use Rattle.js_forms.specs.declared.form.Flow.{Flow}
-use Rattle.js_forms.specs.declared.form.Flow.TheVariants as fl
-use Rattle.js_forms.specs.declared.form.Key.{Key}
-use Rattle.js_forms.specs.declared.form.Key.TheVariants as key
 use Rattle.js_forms.specs.declared.form.Link.{Link}
-use Rattle.js_forms.specs.declared.form.Link.TheVariants as link
-use Rattle.js_forms.specs.declared.form.Standing.{Standing}
-use Rattle.js_forms.specs.declared.form.Standing.TheVariants as standing
 use Rattle.js_forms.specs.declared.form.Form.{Form}
 use Rattle.js_forms.specs.declared.form.Form.TheVariants as f
 use Rattle.tree_forms.specs.declared.edges.Edge.{Edge}
-use Rattle.tree_forms.specs.declared.slot_def.SlotDef.{SlotDef}
-use Rattle.tree_forms.specs.declared.slot_def.SlotCategory.{SlotCategory}
-use Rattle.tree_forms.specs.declared.slot_def.SlotCategory.TheVariants as t
-use Rattle.tree_forms.specs.declared.slot_def.Variant.{Variant}
+use Rattle.tree_forms.specs.declared.variant.Variant.{Variant}
 use Rattle.tree_forms.specs.Choice.{form}
 use Rattle.tree_forms.specs.Slots as slots
+use Rattle.tree_forms.specs.Slots.{begins_bare}
 
-abbrev pub usual_groups : Category → Bool
-usual_groups c.Expression = true
-usual_groups c.Cover = true
-usual_groups c.Argument = true
-usual_groups c.Element = true
-usual_groups c.Callee = true
-usual_groups c.Target = true
-usual_groups _ = false
-
-abbrev pub assigned_groups : Category → Bool
-assigned_groups c.Binding = true
-assigned_groups c.BindingValue = true
-assigned_groups c.BindingElement = true
-assigned_groups _ = false
-
--- an expression in the slot may stand in parentheses
-abbrev pub takes_groups : SlotCategory → Bool
-takes_groups (t.Usual category) = usual_groups category
-takes_groups (t.Assigned category) = assigned_groups category
-takes_groups (t.Operand _) = true
-takes_groups t.ArrowBody = true
-takes_groups t.ForInit = true
-takes_groups (t.ForLeft _) = true
+-- an expression in the place may stand in parentheses
+abbrev pub takes_groups : Category → Bool
+takes_groups c.Expression = true
+takes_groups c.Cover = true
+takes_groups c.Argument = true
+takes_groups c.Element = true
+takes_groups c.Callee = true
+takes_groups c.Target = true
+takes_groups c.Assigned = true
+takes_groups c.AssignedValue = true
+takes_groups c.AssignedElement = true
+takes_groups c.Operand = true
+takes_groups c.ArrowBody = true
+takes_groups c.ForInit = true
+takes_groups c.ForLeft = true
 takes_groups _ = false
 
--- no word stands before the key
-abbrev pub is_bare_key : Key → Bool
-is_bare_key key.Plain = true
-is_bare_key key.Computed = false
+-- the link of a member or a call
+abbrev pub link_in : Form → Option Link
+link_in (f.Dot link) = Some link
+link_in (f.Index link) = Some link
+link_in (f.Call link) = Some link
+link_in _ = None
 
--- a method begins with its key
-abbrev pub plain_with_key : Flow → Key → Bool
-plain_with_key fl.Plain key = is_bare_key key
-plain_with_key _ key = false
+abbrev pub below_links : Option Edge → ℕ
+below_links (Some first) = first.links
+below_links None = 0
 
-abbrev pub begins_with_key : Access → Flow → Key → Bool
-begins_with_key a.Get flow key = false
-begins_with_key a.Set flow key = false
-begins_with_key _ flow key = plain_with_key flow key
+-- over so many links
+abbrev pub links_with : Option Link → ℕ → ℕ
+links_with None below = 0
+links_with (Some link) below = if below == 0 then (if is_optional link then 1 else 0) else min (below + 1) 4294967295
 
-abbrev pub is_instance : Standing → Bool
-is_instance standing.Instance = true
-is_instance standing.Static = false
+abbrev pub link_of : Option Variant → Option Link
+link_of (Some v) = link_in v.form
+link_of None = None
 
--- the form begins with its first child, with no word before it
-abbrev pub begins_bare : Form → Bool
-begins_bare (f.Property key) = is_bare_key key
-begins_bare (f.PatternProperty key) = is_bare_key key
-begins_bare (f.PropertyMethod access flow key) = begins_with_key access flow key
-begins_bare (f.Method access standing flow key) = is_instance standing && begins_with_key access flow key
-begins_bare (f.Field standing key) = is_instance standing && is_bare_key key
-begins_bare f.ShorthandProperty = true
-begins_bare f.PatternShorthand = true
-begins_bare f.Tagged = true
-begins_bare (f.Dot _) = true
-begins_bare (f.Index _) = true
-begins_bare (f.Call _) = true
-begins_bare (f.Postfix _) = true
-begins_bare (f.Binary _) = true
-begins_bare (f.Logical _) = true
-begins_bare f.Conditional = true
-begins_bare (f.Assignment _) = true
-begins_bare f.Sequence = true
-begins_bare f.Chain = true
-begins_bare f.Default = true
-begins_bare f.ExpressionStatement = true
-begins_bare f.Labeled = true
-begins_bare f.Declarator = true
-begins_bare f.ImportSpecifier = true
-begins_bare f.ImportShorthand = true
-begins_bare f.ImportDefault = true
-begins_bare f.ExportSpecifier = true
-begins_bare f.ExportShorthand = true
-begins_bare _ = false
+-- how many links of a chain go from a node of the form, over this first child, down to the lowest that
+-- is optional and bare
+abbrev pub links_over : Option Variant → Option Edge → ℕ
+links_over v below = links_with (link_of v) (below_links below)
 
-abbrev pub below_chained : Option Edge → Bool
-below_chained (Some first) = first.chained
-below_chained None = false
-
-abbrev pub is_optional : Link → Option Edge → Bool
-is_optional link.Optional below = true
-is_optional link.Plain below = below_chained below
-
--- an optional link is bare in a node of the form over this first child
-abbrev pub is_chained : Form → Option Edge → Bool
-is_chained (f.Dot link) below = is_optional link below
-is_chained (f.Index link) below = is_optional link below
-is_chained (f.Call link) below = is_optional link below
-is_chained _ below = false
-
-abbrev pub slot_groups : Option SlotDef → Edge → Bool
-slot_groups (Some def) edge = takes_groups def.category && edge.groups
+abbrev pub slot_groups : Option Place → Edge → Bool
+slot_groups (Some at) edge = takes_groups at.category && edge.groups
 slot_groups None edge = false
 
 -- the first child of the form, with this edge, may stand in parentheses
@@ -128,36 +75,46 @@ first_groups v edge = slot_groups (slots.slot v 0) edge
 
 -- the level of a member or a tagged template
 abbrev pub member_level : Variant → Option Edge → ℕ
-member_level v (Some first) = if (first.level == 17) && not (first.noted && first_groups v first) then 17 else 18
-member_level v None = 18
+member_level v (Some first) = if (first.level == CALL) && not (first.noted && first_groups v first) then CALL else MEMBER
+member_level v None = MEMBER
 
-abbrev pub form_level : Form → Variant → Option Edge → ℕ
-form_level (f.Dot _) v below = member_level v below
-form_level (f.Index _) v below = member_level v below
-form_level f.Tagged v below = member_level v below
-form_level form v below = table.level form
+abbrev pub is_member : Form → Bool
+is_member (f.Dot _) = true
+is_member (f.Index _) = true
+is_member f.Tagged = true
+is_member _ = false
 
 abbrev pub level_over : Variant → Option Edge → ℕ
-level_over v below = form_level v.form v below
+level_over v below = if is_member v.form then member_level v below else spelled_level v.form v.spelling
 
 -- the comments before the first child come to stand before the node
 abbrev pub rises : Variant → Option Edge → Bool
-rises v (Some first) = begins_bare v.form && (first.noted && not (first_groups v first))
+rises v (Some first) = begins_bare v && (first.noted && not (first_groups v first))
 rises v None = false
 
 abbrev pub has_any : List Comment → Bool
 has_any [] = false
 has_any (comment ∷ more) = true
 
+abbrev pub is_expression : Kind → Bool
+is_expression kind = is_a kind (Group Expression)
+
+abbrev pub level_of : Option Variant → Option Edge → ℕ
+level_of (Some v) below = level_over v below
+level_of None below = PRIMARY
+
+abbrev pub rises_of : Option Variant → Option Edge → Bool
+rises_of (Some v) below = rises v below
+rises_of None below = false
+
 -- the edge of a node of this kind with these comments before it, over this first child
-abbrev pub edge_over : Option Variant → ℕ → List Comment → Option Edge → Edge
-edge_over (Some v) kind lead below = record { level = level_over v below; chained = is_chained v.form below; groups = is_a kind 101 && not (is_chained v.form below); noted = has_any lead || rises v below }
-edge_over None kind lead below = record { level = 19; chained = false; groups = is_a kind 101; noted = has_any lead }
+abbrev pub edge_over : Option Variant → Kind → List Comment → Option Edge → Edge
+edge_over v kind lead below = record { level = level_of v below; links = links_over v below; groups = is_expression kind && (links_over v below == 0); noted = has_any lead || rises_of v below }
 
 abbrev mutual
   -- the left end of the tree
   pub left_end : Syntax → Edge
-  left_end (node kind found slots notes from) = edge_over (form (t.Usual c.Expression) (node kind found slots notes from)) kind notes.lead (first_edge slots)
+  left_end (node kind found slots notes from) = edge_over (form c.Expression (node kind found slots notes from)) kind notes.lead (first_edge slots)
 
   pub first_edge : Slots → Option Edge
   first_edge no_slots = None

@@ -1,12 +1,4 @@
-pub mod Contexts
-pub mod Tokens
-pub mod Pieces
-pub mod Shapes
-pub mod Spellings
-pub mod Spells
 pub mod Reading
 pub mod Slots
 pub mod Choice
 pub mod Edges
-pub mod Children
-pub mod Seats

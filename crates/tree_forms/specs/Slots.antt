@@ -1,313 +1,187 @@
--- What the slots of each form take, in the order of the kind's fields (ESTree; ECMA-262, clauses 13 to
--- 16).
-use Rattle.std.specs.Prelude.{ℕ, ◌==◌, if◌then◌else◌, Option, Some, None}
-use Rattle.js_forms.specs.Levels.{first_child, right}
+-- What the slots of each form take, and what a form is at its ends: told by its pieces (ESTree; ECMA-262,
+-- clauses 11 to 16).
+use Rattle.std.specs.Prelude.{ℕ, ◌+◌, ◌-◌, ◌==◌, Bool, true, false, not, ◌&&◌, nat_lt, nat_le, if◌then◌else◌, List, [], ◌∷◌, Option, Some, None}
+use Rattle.std.specs.List.{list_all}
+use Rattle.js_forms.specs.Levels.{first_child}
+use Rattle.js_forms.specs.Own.{plain}
+use Rattle.js_forms.specs.Table.{pieces, first_row, second_row}
 use Rattle.js_forms.specs.declared.category.Category.{Category}
 use Rattle.js_forms.specs.declared.category.Category.TheVariants as c
-use Rattle.js_forms.specs.declared.form.Access.{Access}
-use Rattle.js_forms.specs.declared.form.Access.TheVariants as a
-use Rattle.js_forms.specs.declared.form.Flow.{Flow}
-use Rattle.js_forms.specs.declared.form.Key.{Key}
-use Rattle.js_forms.specs.declared.form.Key.TheVariants as k
+use Rattle.js_forms.specs.declared.context.Scope.{Scope}
+use Rattle.js_forms.specs.declared.context.Scope.TheVariants as s
 use Rattle.js_forms.specs.declared.form.Form.{Form}
 use Rattle.js_forms.specs.declared.form.Form.TheVariants as f
 use Rattle.js_forms.specs.declared.levels.Left.{Left}
 use Rattle.js_forms.specs.declared.levels.Left.TheVariants as l
-use Rattle.js_forms.specs.declared.part.Scope.{Scope}
-use Rattle.js_forms.specs.declared.part.Scope.TheVariants as s
-use Rattle.tree_forms.specs.declared.slot_def.Variant.{Variant}
-use Rattle.tree_forms.specs.declared.slot_def.SlotCategory.{SlotCategory}
-use Rattle.tree_forms.specs.declared.slot_def.SlotCategory.TheVariants as t
-use Rattle.tree_forms.specs.declared.slot_def.Change.{Change}
-use Rattle.tree_forms.specs.declared.slot_def.Change.TheVariants as to
-use Rattle.tree_forms.specs.declared.slot_def.SlotDef.{SlotDef}
+use Rattle.js_forms.specs.declared.levels.TheConstants.{CALL}
+use Rattle.js_forms.specs.declared.piece.Piece.{Piece}
+use Rattle.js_forms.specs.declared.piece.Piece.TheVariants as p
+use Rattle.js_forms.specs.declared.piece.Place.{Place}
+use Rattle.tree_forms.specs.declared.variant.Variant.{Variant}
 
-abbrev pub taking : SlotCategory → ℕ → Change → Option SlotDef
-taking category least change = Some (record { category = category; least = least; change = change })
+abbrev pub pieces_of : Variant → List Piece
+pieces_of v = pieces v.form v.spelling
 
--- what a place of the table of forms takes
-abbrev pub usual : Category → ℕ → Scope → Option SlotDef
-usual category least scope = taking (t.Usual category) least (to.Usual scope)
+-- how many slots a piece fills that is no choice
+abbrev pub width : Piece → ℕ
+width (p.Child place) = 1
+width (p.First place) = 1
+width p.Hole = 1
+width (p.NoList place) = 1
+width (p.Row place semicolons) = 1
+width (p.Commas place holes last) = 1
+width (p.Twins before place) = 2
+width (p.Template cooked) = 2
+width _ = 0
 
--- another category, in the same surroundings
-abbrev pub same : SlotCategory → Option SlotDef
-same category = taking category 0 (to.Usual s.Same)
+-- the piece of a choice's first row that fills a slot
+abbrev pub filler : List Piece → Piece
+filler [] = p.Nothing
+filler (piece ∷ more) = if width piece == 0 then filler more else piece
 
-abbrev pub name : Option SlotDef
-name = usual c.Name 0 s.Same
+abbrev pub shown : Piece → Piece
+shown (p.Choice choice) = filler (first_row choice)
+shown piece = piece
 
-abbrev pub any_name : Option SlotDef
-any_name = usual c.AnyName 0 s.Same
+-- the piece as the form tells it, and of a choice what fills a slot
+abbrev pub seen : Form → Piece → Piece
+seen form piece = shown (plain form piece)
 
--- an expression of at least this level; with `in` as an operator again
-abbrev pub expression : ℕ → Option SlotDef
-expression least = usual c.Expression least s.Same
-
-abbrev pub free : ℕ → Option SlotDef
-free least = usual c.Expression least s.Free
-
-abbrev pub body : Option SlotDef
-body = usual c.Statement 0 s.Same
-
-abbrev pub block : Option SlotDef
-block = usual c.Block 0 s.Same
-
-abbrev pub parameters : Option SlotDef
-parameters = usual c.BindingElement 1 s.Parameters
-
-abbrev pub function_body : Option SlotDef
-function_body = usual c.FunctionBody 0 s.Body
-
--- a part of a pattern that declares (0) or assigns
-abbrev pub part : ℕ → Category → ℕ → Option SlotDef
-part spelling category least = if spelling == 0 then usual category least s.Free else taking (t.Assigned category) least (to.Usual s.Free)
-
--- a key, in brackets or not
-abbrev pub key : Category → Key → Option SlotDef
-key category k.Plain = usual category 0 s.Free
-key category k.Computed = free 1
-
-abbrev pub method_value : Access → Flow → Option SlotDef
-method_value a.Get flow = usual c.Getter 0 s.Same
-method_value a.Set flow = usual c.Setter 0 s.Same
-method_value _ flow = usual (c.Method flow) 0 s.Same
+abbrev pub place : Category → ℕ → Scope → Place
+place category least scope = record { category = category; least = least; scope = scope }
 
 -- the least level of what a form begins with
 abbrev pub left_level : Left → ℕ
 left_level (l.Level least) = least
 left_level (l.Coalescing least) = least
 left_level (l.Other least) = least
-left_level l.Object = 17
+left_level l.Object = CALL
 left_level l.Simple = 0
 
+abbrev pub is_chain : Form → Bool
+is_chain f.Chain = true
+is_chain _ = false
+
 abbrev pub operand_level : Form → ℕ
-operand_level form = left_level (first_child form)
+operand_level form = if is_chain form then CALL else left_level (first_child form)
 
--- what the form begins with
-abbrev pub operand : Form → Option SlotDef
-operand form = taking (t.Operand form) (operand_level form) (to.Usual s.Same)
+-- an import's names stand in one list with its default and its namespace
+abbrev pub listed : Category → Category
+listed c.ImportSpecifier = c.Imports
+listed category = category
 
--- what stands before the `in` or `of` of a loop
-abbrev pub for_left : Form → Option SlotDef
-for_left form = taking (t.ForLeft form) 0 to.WithoutIn
+-- the first of two slots of one name is the mirror, or the second
+abbrev pub is_mirror_of : Bool → ℕ → Bool
+is_mirror_of true number = number == 0
+is_mirror_of false number = number == 1
 
--- what has a default: in a pattern that declares (0), in one that assigns (1), in a shorthand
-abbrev pub default_left : ℕ → Option SlotDef
-default_left spelling = if spelling == 0 then usual c.Binding 0 s.Same else (if spelling == 1 then same (t.Assigned c.Binding) else name)
+-- what the slot of this number takes, among those that the piece fills
+abbrev pub place_in : Form → Piece → ℕ → Option Place
+place_in _ (p.Child one) number = Some one
+place_in form (p.First one) number = Some (place one.category (operand_level form) one.scope)
+place_in _ p.Hole number = None
+place_in _ (p.NoList one) number = one
+place_in _ (p.Row one semicolons) number = Some one
+place_in _ (p.Commas one holes last) number = Some (place (listed one.category) one.least one.scope)
+place_in _ (p.Twins before one) number = if is_mirror_of before number then Some (place c.AnyName 0 s.Same) else Some one
+place_in _ (p.Template cooked) number = if number == 0 then Some (place c.Characters 0 s.Same) else Some (place c.Expression 0 s.Free)
+place_in _ _ number = None
 
--- the rest of an object pattern that declares (0) or assigns
-abbrev pub name_rest : ℕ → Option SlotDef
-name_rest spelling = if spelling == 0 then name else usual c.Target 15 s.Same
+-- what the slot of this number takes, if something may stand there
+abbrev pub slot_in : Form → List Piece → ℕ → Option Place
+slot_in _ [] number = None
+slot_in form (piece ∷ more) number = if nat_lt number (width (seen form piece)) then place_in form (seen form piece) number else slot_in form more (number - width (seen form piece))
 
--- what is made anew, without arguments (16) or with them
-abbrev pub callee : ℕ → Option SlotDef
-callee spelling = if spelling == 16 then usual c.Callee 18 s.Same else expression 18
+abbrev pub slot : Variant → ℕ → Option Place
+slot v number = slot_in v.form (pieces_of v) number
 
--- what a declarator declares, and its value, which one of the spelling 2 has
-abbrev pub declared : ℕ → Option SlotDef
-declared spelling = if spelling == 0 then name else usual c.Binding 0 s.Same
+abbrev pub is_mirror_in : Piece → ℕ → Bool
+is_mirror_in (p.Twins before place) number = is_mirror_of before number
+is_mirror_in _ number = false
 
-abbrev pub value : ℕ → Option SlotDef
-value spelling = if spelling == 2 then expression 1 else None
+-- the slot holds a name that is spelled for another one
+abbrev pub has_mirror : Form → List Piece → ℕ → Bool
+has_mirror _ [] number = false
+has_mirror form (piece ∷ more) number = if nat_lt number (width (seen form piece)) then is_mirror_in (seen form piece) number else has_mirror form more (number - width (seen form piece))
 
--- the names of an export with a source (0) or without
-abbrev pub local : ℕ → Option SlotDef
-local spelling = if spelling == 0 then any_name else name
+abbrev pub is_mirror : Variant → ℕ → Bool
+is_mirror v number = has_mirror v.form (pieces_of v) number
 
-abbrev pub exports : ℕ → Option SlotDef
-exports spelling = if spelling == 0 then usual c.ExportSpecifier 0 s.Same else same t.OwnExport
+-- the piece spells no token where no child is there
+abbrev pub is_quiet : Piece → Bool
+is_quiet p.Interpreter = false
+is_quiet (p.Token test) = false
+is_quiet (p.Text lexeme) = false
+is_quiet (p.End ending clause) = false
+is_quiet (p.Template cooked) = false
+is_quiet _ = true
 
-abbrev pub source : ℕ → Option SlotDef
-source spelling = if spelling == 0 then usual c.Source 0 s.Same else None
+-- the same, of a choice by its second row
+abbrev pub stays_quiet : Piece → Bool
+stays_quiet (p.Choice choice) = list_all is_quiet (second_row choice)
+stays_quiet piece = is_quiet piece
 
--- what the head of a declaration of variables declares: before a `;` (0) as elsewhere
-abbrev pub head : ℕ → SlotCategory → Option SlotDef
-head spelling declarator = if spelling == 0 then same declarator else same t.LoneDeclarator
+abbrev pub all_quiet : Form → List Piece → Bool
+all_quiet _ [] = true
+all_quiet form (piece ∷ more) = stays_quiet (plain form piece) && all_quiet form more
 
--- the first slot of a statement or of a part of one
-abbrev pub first_of_statement : Form → ℕ → Option SlotDef
-first_of_statement f.Program spelling = taking (t.Usual c.ModuleItem) 0 to.Directives
-first_of_statement f.FunctionBody spelling = taking (t.Usual c.Item) 0 to.Directives
-first_of_statement f.ExpressionStatement spelling = taking (t.Operand f.ExpressionStatement) 0 to.Stay
-first_of_statement f.Block spelling = usual c.Item 0 s.Same
-first_of_statement f.With spelling = free 0
-first_of_statement f.If spelling = free 0
-first_of_statement f.Switch spelling = free 0
-first_of_statement f.Case spelling = free 0
-first_of_statement f.Throw spelling = free 0
-first_of_statement f.While spelling = free 0
-first_of_statement f.Return spelling = expression 0
-first_of_statement f.Labeled spelling = name
-first_of_statement f.Break spelling = name
-first_of_statement f.Continue spelling = name
-first_of_statement f.Try spelling = block
-first_of_statement f.Catch spelling = usual c.Binding 0 s.Free
-first_of_statement f.DoWhile spelling = body
-first_of_statement f.For spelling = taking t.ForInit 0 to.WithoutIn
-first_of_statement f.ForIn spelling = for_left f.ForIn
-first_of_statement f.ForOf spelling = for_left f.ForOf
-first_of_statement f.ForAwait spelling = for_left f.ForAwait
-first_of_statement (f.Variables word) spelling = same (t.Declarator word)
-first_of_statement (f.HeadVariables word) spelling = head spelling (t.Declarator word)
-first_of_statement f.Declarator spelling = declared spelling
-first_of_statement f.Import spelling = same t.Imports
-first_of_statement f.ImportSpecifier spelling = any_name
-first_of_statement f.ImportShorthand spelling = any_name
-first_of_statement f.ImportDefault spelling = name
-first_of_statement f.ImportNamespace spelling = name
-first_of_statement f.ExportDeclaration spelling = usual c.Declaration 0 s.Same
-first_of_statement f.ExportSpecifier spelling = local spelling
-first_of_statement f.ExportShorthand spelling = local spelling
-first_of_statement f.ExportDefault spelling = expression 1
-first_of_statement f.ExportDefaultDeclaration spelling = same t.DefaultDeclaration
-first_of_statement f.ExportAll spelling = any_name
-first_of_statement _ spelling = None
+abbrev pub is_template_piece : Piece → Bool
+is_template_piece (p.Template cooked) = true
+is_template_piece _ = false
 
--- the first slot of an expression with operands
-abbrev pub first_of_operation : Form → ℕ → Option SlotDef
-first_of_operation f.Tagged spelling = operand f.Tagged
-first_of_operation (f.Dot link) spelling = operand (f.Dot link)
-first_of_operation (f.Index link) spelling = operand (f.Index link)
-first_of_operation (f.Call link) spelling = operand (f.Call link)
-first_of_operation (f.Postfix operator) spelling = operand (f.Postfix operator)
-first_of_operation (f.Binary operator) spelling = operand (f.Binary operator)
-first_of_operation (f.Logical operator) spelling = operand (f.Logical operator)
-first_of_operation f.Conditional spelling = operand f.Conditional
-first_of_operation (f.Assignment operator) spelling = operand (f.Assignment operator)
-first_of_operation f.Chain spelling = taking (t.Operand f.Chain) 17 (to.Usual s.Same)
-first_of_operation f.New spelling = callee spelling
-first_of_operation f.ImportCall spelling = free 1
-first_of_operation (f.Prefix _) spelling = usual c.Target 15 s.Same
-first_of_operation (f.Unary _) spelling = expression 14
-first_of_operation f.Await spelling = expression 14
-first_of_operation f.YieldValue spelling = expression 1
-first_of_operation f.YieldStar spelling = expression 1
-first_of_operation f.Sequence spelling = expression 1
-first_of_operation _ spelling = None
+-- no token stands behind the slot of this number, where it is the last with a child
+abbrev pub ends_in : Form → List Piece → ℕ → Bool
+ends_in _ [] number = false
+ends_in form (piece ∷ more) number = if nat_lt number (width (seen form piece)) then not (is_template_piece (seen form piece)) && all_quiet form more else ends_in form more (number - width (seen form piece))
 
--- the first slot of an expression or of a part of one
-abbrev pub first_of_expression : Form → ℕ → Option SlotDef
-first_of_expression f.Array spelling = usual c.Element 1 s.Free
-first_of_expression f.Object spelling = usual c.ObjectItem 1 s.Free
-first_of_expression (f.Property at) spelling = key c.ObjectKey at
-first_of_expression (f.PropertyMethod _ _ at) spelling = key c.ObjectKey at
-first_of_expression (f.PatternProperty at) spelling = key c.ObjectKey at
-first_of_expression (f.Method _ _ _ at) spelling = key c.ClassKey at
-first_of_expression (f.Field _ at) spelling = key c.ClassKey at
-first_of_expression f.ShorthandProperty spelling = any_name
-first_of_expression f.PatternShorthand spelling = any_name
-first_of_expression (f.Function _) spelling = name
-first_of_expression (f.FunctionDeclaration _) spelling = name
-first_of_expression f.Class spelling = name
-first_of_expression f.ClassDeclaration spelling = name
-first_of_expression (f.Arrow _) spelling = parameters
-first_of_expression f.ClassBody spelling = usual c.ClassItem 0 s.Same
-first_of_expression f.StaticBlock spelling = usual c.Item 0 s.Field
-first_of_expression f.Template spelling = same t.Characters
-first_of_expression f.Spread spelling = usual c.Cover 1 s.Free
-first_of_expression f.ArrayPattern spelling = part spelling c.BindingElement 1
-first_of_expression f.ObjectPattern spelling = part spelling c.BindingProperty 1
-first_of_expression f.Default spelling = default_left spelling
-first_of_expression f.Rest spelling = part spelling c.Binding 0
-first_of_expression f.NameRest spelling = name_rest spelling
-first_of_expression _ spelling = None
+-- the form ends with the child of this slot, with no word behind it
+abbrev pub ends_bare : Variant → ℕ → Bool
+ends_bare v number = ends_in v.form (pieces_of v) number
 
--- the second slot of a statement or of a part of one
-abbrev pub second_of_statement : Form → ℕ → Option SlotDef
-second_of_statement f.With spelling = body
-second_of_statement f.Labeled spelling = body
-second_of_statement f.If spelling = body
-second_of_statement f.While spelling = body
-second_of_statement f.Switch spelling = usual c.Case 0 s.Same
-second_of_statement f.Case spelling = usual c.Item 0 s.Same
-second_of_statement f.DefaultCase spelling = usual c.Item 0 s.Same
-second_of_statement f.Try spelling = usual c.Catch 0 s.Same
-second_of_statement f.Catch spelling = block
-second_of_statement f.DoWhile spelling = free 0
-second_of_statement f.For spelling = expression 0
-second_of_statement f.ForIn spelling = expression 0
-second_of_statement f.ForOf spelling = expression 1
-second_of_statement f.ForAwait spelling = expression 1
-second_of_statement f.Declarator spelling = value spelling
-second_of_statement f.Import spelling = source 0
-second_of_statement f.ExportAll spelling = source 0
-second_of_statement f.ImportSpecifier spelling = name
-second_of_statement f.ImportShorthand spelling = name
-second_of_statement f.ExportNames spelling = exports spelling
-second_of_statement f.ExportSpecifier spelling = any_name
-second_of_statement f.ExportShorthand spelling = any_name
-second_of_statement _ spelling = None
+-- the piece spells a child or children
+abbrev pub has_children : Piece → Bool
+has_children (p.Child place) = true
+has_children (p.First place) = true
+has_children (p.Into place) = true
+has_children (p.Row place semicolons) = true
+has_children (p.Commas place holes last) = true
+has_children (p.Twins before place) = true
+has_children _ = false
 
--- the second slot of an expression or of a part of one
-abbrev pub second_of_expression : Form → ℕ → Option SlotDef
-second_of_expression (f.Property _) spelling = usual c.Cover 1 s.Free
-second_of_expression f.ShorthandProperty spelling = name
-second_of_expression (f.PropertyMethod access flow _) spelling = method_value access flow
-second_of_expression (f.Method access _ flow _) spelling = method_value access flow
-second_of_expression (f.Function _) spelling = parameters
-second_of_expression (f.FunctionDeclaration _) spelling = parameters
-second_of_expression (f.MethodValue _) spelling = parameters
-second_of_expression f.SetterValue spelling = usual c.BindingValue 1 s.Parameters
-second_of_expression (f.Arrow _) spelling = taking t.ArrowBody 1 to.ArrowBody
-second_of_expression f.Class spelling = expression 16
-second_of_expression f.ClassDeclaration spelling = expression 16
-second_of_expression (f.Field _ _) spelling = usual c.Expression 1 s.Field
-second_of_expression f.Template spelling = free 0
-second_of_expression (f.Index _) spelling = free 0
-second_of_expression f.Tagged spelling = usual c.Template 0 s.Same
-second_of_expression (f.Dot _) spelling = usual c.Member 0 s.Same
-second_of_expression (f.Call _) spelling = usual c.Argument 1 s.Free
-second_of_expression f.New spelling = usual c.Argument 1 s.Free
-second_of_expression (f.Binary operator) spelling = expression (right operator)
-second_of_expression (f.Logical operator) spelling = expression (right operator)
-second_of_expression f.Conditional spelling = free 1
-second_of_expression f.Default spelling = free 1
-second_of_expression (f.Assignment _) spelling = expression 1
-second_of_expression (f.PatternProperty _) spelling = part spelling c.BindingValue 1
-second_of_expression f.PatternShorthand spelling = same t.ShortValue
-second_of_expression _ spelling = None
+-- what stands first is a child, and no token; a choice that stands first begins with one
+abbrev pub begins_in : Form → List Piece → Bool
+begins_in _ [] = false
+begins_in form (piece ∷ more) = if has_children (plain form piece) then true else stays_quiet (plain form piece) && begins_in form more
 
--- the one table's row, or else the other's
-abbrev pub or : Option SlotDef → Option SlotDef → Option SlotDef
-or (Some def) _ = Some def
-or None other = other
+-- the form begins with its first child, with no word before it
+abbrev pub begins_bare : Variant → Bool
+begins_bare v = begins_in v.form (pieces_of v)
 
--- the first slot of any form
-abbrev pub first : Form → ℕ → Option SlotDef
-first form spelling = or (first_of_expression form spelling) (or (first_of_operation form spelling) (first_of_statement form spelling))
+-- how many tokens a piece spells: 0, 1, or more
+abbrev pub tokens_at : Category → ℕ
+tokens_at c.Name = 1
+tokens_at c.AnyName = 1
+tokens_at _ = 2
 
--- the second slot of any form
-abbrev pub second : Form → ℕ → Option SlotDef
-second form spelling = or (second_of_expression form spelling) (second_of_statement form spelling)
+abbrev pub one_or_more : Bool → ℕ
+one_or_more single = if single then 1 else 2
 
--- the third slot
-abbrev pub third : Form → ℕ → Option SlotDef
-third (f.Function _) spelling = function_body
-third (f.FunctionDeclaration _) spelling = function_body
-third (f.MethodValue _) spelling = function_body
-third f.GetterValue spelling = function_body
-third f.SetterValue spelling = function_body
-third f.Class spelling = usual c.ClassBody 0 s.Class
-third f.ClassDeclaration spelling = usual c.ClassBody 0 s.Class
-third f.Conditional spelling = expression 1
-third f.If spelling = body
-third f.ForIn spelling = body
-third f.ForOf spelling = body
-third f.ForAwait spelling = body
-third f.Try spelling = block
-third f.For spelling = expression 0
-third f.ExportNames spelling = source spelling
-third _ spelling = None
+-- the same where the twin is one token, where a template has no expressions
+abbrev pub tokens_of : Bool → Piece → ℕ
+tokens_of single p.Interpreter = 1
+tokens_of single (p.Token test) = 1
+tokens_of single (p.Text lexeme) = 1
+tokens_of single (p.End ending clause) = 1
+tokens_of single (p.Child place) = tokens_at place.category
+tokens_of single (p.First place) = 2
+tokens_of single (p.Into place) = 2
+tokens_of single (p.Row place semicolons) = 2
+tokens_of single (p.Commas place holes last) = 2
+tokens_of single (p.Twins before place) = one_or_more single
+tokens_of single (p.Template cooked) = one_or_more single
+tokens_of single _ = 0
 
--- the fourth slot
-abbrev pub fourth : Form → Option SlotDef
-fourth f.For = body
-fourth _ = None
-
--- the slot of this number, if the form has it and something may stand there
-abbrev pub slot : Variant → ℕ → Option SlotDef
-slot v number =
-    if number == 0 then first v.form v.spelling else
-    (if number == 1 then second v.form v.spelling else
-    (if number == 2 then third v.form v.spelling else
-    (if number == 3 then fourth v.form else None)))
+-- the pieces spell no more than this many tokens
+abbrev pub spells_at_most : Bool → Form → List Piece → ℕ → Bool
+spells_at_most single _ [] most = true
+spells_at_most single form (piece ∷ more) most = nat_le (tokens_of single (plain form piece)) most && spells_at_most single form more (most - tokens_of single (plain form piece))

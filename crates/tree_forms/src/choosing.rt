@@ -2,95 +2,28 @@
 
 ghost use Rattle.std.specs.Prelude.{◌≡◌, slice_get};
 ghost use Rattle.tree_core.specs.View.{syntax};
+ghost use Rattle.js_forms.specs.Operators.{operators};
 ghost use Rattle.tree_forms.specs.Choice as spec;
 
 use crate::fronts::has_scalars;
-use crate::places::same_flow;
-use crate::reading::{child, is_kind, is_text_at, is_truth_at};
-use crate::slot_def::{SlotCategory, SlotDef, Variant};
+use crate::reading::{child, is_function_or_class};
 use crate::spellings::spelling;
-use js_forms::{Access, Category, Flow, Form, Key, Link, Operator, Sort, Standing, Variable};
-use js_tokens::{Punctuator, Word};
+use crate::variant::Variant;
+use js_forms::{
+    Access, Category, Flow, Form, Key, Link, Operator, Place, Role, Sort, Standing, Variable,
+    has_role, operators,
+};
+use spelling_rules::same_flow;
 use tree_core::{Scalars, Tree};
 use type_defs::Kind;
 
-/// The operators of updates (ECMA-262, clause 13.4).
-const UPDATES: [Operator; 2] = [
-    Operator::Mark(Punctuator::PlusPlus),
-    Operator::Mark(Punctuator::MinusMinus),
-];
-
-/// The operators before one operand (clause 13.5).
-const UNARIES: [Operator; 7] = [
-    Operator::Mark(Punctuator::Plus),
-    Operator::Mark(Punctuator::Minus),
-    Operator::Mark(Punctuator::Bang),
-    Operator::Mark(Punctuator::Tilde),
-    Operator::Word(Word::Typeof),
-    Operator::Word(Word::Void),
-    Operator::Word(Word::Delete),
-];
-
-/// The operators between two operands (clauses 13.6 to 13.12).
-const BINARIES: [Operator; 22] = [
-    Operator::Mark(Punctuator::Bar),
-    Operator::Mark(Punctuator::Caret),
-    Operator::Mark(Punctuator::Ampersand),
-    Operator::Mark(Punctuator::Equal),
-    Operator::Mark(Punctuator::NotEqual),
-    Operator::Mark(Punctuator::StrictEqual),
-    Operator::Mark(Punctuator::StrictNotEqual),
-    Operator::Mark(Punctuator::Less),
-    Operator::Mark(Punctuator::Greater),
-    Operator::Mark(Punctuator::LessEqual),
-    Operator::Mark(Punctuator::GreaterEqual),
-    Operator::Mark(Punctuator::ShiftLeft),
-    Operator::Mark(Punctuator::ShiftRight),
-    Operator::Mark(Punctuator::ShiftRightUnsigned),
-    Operator::Mark(Punctuator::Plus),
-    Operator::Mark(Punctuator::Minus),
-    Operator::Mark(Punctuator::Star),
-    Operator::Mark(Punctuator::Slash),
-    Operator::Mark(Punctuator::Percent),
-    Operator::Mark(Punctuator::StarStar),
-    Operator::Word(Word::In),
-    Operator::Word(Word::Instanceof),
-];
-
-/// The logical operators (clause 13.13).
-const LOGICALS: [Operator; 3] = [
-    Operator::Mark(Punctuator::AndAnd),
-    Operator::Mark(Punctuator::OrOr),
-    Operator::Mark(Punctuator::Nullish),
-];
-
-/// The operators of assignments (clause 13.15).
-const ASSIGNMENTS: [Operator; 16] = [
-    Operator::Mark(Punctuator::Assign),
-    Operator::Mark(Punctuator::PlusAssign),
-    Operator::Mark(Punctuator::MinusAssign),
-    Operator::Mark(Punctuator::StarAssign),
-    Operator::Mark(Punctuator::SlashAssign),
-    Operator::Mark(Punctuator::PercentAssign),
-    Operator::Mark(Punctuator::StarStarAssign),
-    Operator::Mark(Punctuator::ShiftLeftAssign),
-    Operator::Mark(Punctuator::ShiftRightAssign),
-    Operator::Mark(Punctuator::ShiftRightUnsignedAssign),
-    Operator::Mark(Punctuator::AmpersandAssign),
-    Operator::Mark(Punctuator::BarAssign),
-    Operator::Mark(Punctuator::CaretAssign),
-    Operator::Mark(Punctuator::AndAssign),
-    Operator::Mark(Punctuator::OrAssign),
-    Operator::Mark(Punctuator::NullishAssign),
-];
-
-// The first of the operators that the node's first scalar spells.
-fn operator_in(operators: &[Operator], scalars: &Scalars) -> Option<Operator>
-    ensures { result ≡ spec.operator_in operators.now (slice_get scalars.now 0) }
+// The first operator of such expressions that the node's first scalar spells.
+fn operator_in(role: Role, scalars: &Scalars) -> Option<Operator>
+    ensures { result ≡ spec.operator_in operators role (slice_get scalars.now 0) }
 {
-    for operator in operators {
-        if is_text_at(scalars, 0, operator.spelling()) {
-            return Some(*operator);
+    for row in operators() {
+        if has_role(row.1, row.2, role) && scalars.is_text_at(0, row.0.spelling()) {
+            return Some(row.0);
         }
     }
     None
@@ -99,7 +32,7 @@ fn operator_in(operators: &[Operator], scalars: &Scalars) -> Option<Operator>
 fn key_at(scalars: &Scalars, number: usize) -> Key
     ensures { result ≡ spec.key_at (slice_get scalars.now number) }
 {
-    if is_truth_at(scalars, number, true) {
+    if scalars.is_truth_at(number, true) {
         Key::Computed
     } else {
         Key::Plain
@@ -109,7 +42,7 @@ fn key_at(scalars: &Scalars, number: usize) -> Key
 fn standing_at(scalars: &Scalars, number: usize) -> Standing
     ensures { result ≡ spec.standing_at (slice_get scalars.now number) }
 {
-    if is_truth_at(scalars, number, true) {
+    if scalars.is_truth_at(number, true) {
         Standing::Static
     } else {
         Standing::Instance
@@ -119,7 +52,7 @@ fn standing_at(scalars: &Scalars, number: usize) -> Standing
 fn link_at(scalars: &Scalars, number: usize) -> Link
     ensures { result ≡ spec.link_at (slice_get scalars.now number) }
 {
-    if is_truth_at(scalars, number, true) {
+    if scalars.is_truth_at(number, true) {
         Link::Optional
     } else {
         Link::Plain
@@ -130,7 +63,7 @@ fn link_at(scalars: &Scalars, number: usize) -> Link
 fn flow_in(scalars: &Scalars) -> Flow
     ensures { result ≡ spec.flow_in scalars.now }
 {
-    Flow::new(is_truth_at(scalars, 0, true), is_truth_at(scalars, 1, true))
+    Flow::new(scalars.is_truth_at(0, true), scalars.is_truth_at(1, true))
 }
 
 // How the value of a method runs.
@@ -146,22 +79,22 @@ fn value_flow(tree: &Tree) -> Flow
 fn sort_in(scalars: &Scalars) -> Sort
     ensures { result ≡ spec.sort_in scalars.now }
 {
-    if is_text_at(scalars, 0, "string") {
+    if scalars.is_text_at(0, "string") {
         return Sort::Quoted;
     }
-    if is_text_at(scalars, 0, "number") {
+    if scalars.is_text_at(0, "number") {
         return Sort::Number;
     }
-    if is_text_at(scalars, 0, "bigint") {
+    if scalars.is_text_at(0, "bigint") {
         return Sort::BigInt;
     }
-    if is_text_at(scalars, 0, "null") {
+    if scalars.is_text_at(0, "null") {
         return Sort::Null;
     }
-    if is_text_at(scalars, 0, "regexp") {
+    if scalars.is_text_at(0, "regexp") {
         return Sort::Regex;
     }
-    if is_truth_at(scalars, 1, true) {
+    if scalars.is_truth_at(1, true) {
         return Sort::True;
     }
     Sort::False
@@ -170,10 +103,10 @@ fn sort_in(scalars: &Scalars) -> Sort
 fn variable_in(scalars: &Scalars) -> Variable
     ensures { result ≡ spec.variable_in scalars.now }
 {
-    if is_text_at(scalars, 0, "var") {
+    if scalars.is_text_at(0, "var") {
         return Variable::Var;
     }
-    if is_text_at(scalars, 0, "let") {
+    if scalars.is_text_at(0, "let") {
         return Variable::Let;
     }
     Variable::Const
@@ -184,16 +117,16 @@ fn property(tree: &Tree) -> Form
 {
     let scalars = &tree.scalars;
     let key = key_at(scalars, 3);
-    if is_text_at(scalars, 0, "get") {
+    if scalars.is_text_at(0, "get") {
         return Form::PropertyMethod(Access::Get, Flow::Plain, key);
     }
-    if is_text_at(scalars, 0, "set") {
+    if scalars.is_text_at(0, "set") {
         return Form::PropertyMethod(Access::Set, Flow::Plain, key);
     }
-    if is_truth_at(scalars, 1, true) {
+    if scalars.is_truth_at(1, true) {
         return Form::PropertyMethod(Access::Method, value_flow(tree), key);
     }
-    if is_truth_at(scalars, 2, true) {
+    if scalars.is_truth_at(2, true) {
         return Form::ShorthandProperty;
     }
     Form::Property(key)
@@ -205,13 +138,13 @@ fn method(tree: &Tree) -> Form
     let scalars = &tree.scalars;
     let standing = standing_at(scalars, 1);
     let key = key_at(scalars, 2);
-    if is_text_at(scalars, 0, "get") {
+    if scalars.is_text_at(0, "get") {
         return Form::Method(Access::Get, standing, Flow::Plain, key);
     }
-    if is_text_at(scalars, 0, "set") {
+    if scalars.is_text_at(0, "set") {
         return Form::Method(Access::Set, standing, Flow::Plain, key);
     }
-    if is_text_at(scalars, 0, "constructor") {
+    if scalars.is_text_at(0, "constructor") {
         return Form::Method(Access::Constructor, standing, value_flow(tree), key);
     }
     Form::Method(Access::Method, standing, value_flow(tree), key)
@@ -220,7 +153,7 @@ fn method(tree: &Tree) -> Form
 fn pattern_property(scalars: &Scalars) -> Form
     ensures { result ≡ spec.pattern_property scalars.now }
 {
-    if is_truth_at(scalars, 0, true) {
+    if scalars.is_truth_at(0, true) {
         return Form::PatternShorthand;
     }
     Form::PatternProperty(key_at(scalars, 1))
@@ -229,7 +162,7 @@ fn pattern_property(scalars: &Scalars) -> Form
 fn member(scalars: &Scalars) -> Form
     ensures { result ≡ spec.member scalars.now }
 {
-    if is_truth_at(scalars, 0, true) {
+    if scalars.is_truth_at(0, true) {
         return Form::Index(link_at(scalars, 1));
     }
     Form::Dot(link_at(scalars, 1))
@@ -238,7 +171,7 @@ fn member(scalars: &Scalars) -> Form
 fn meta(scalars: &Scalars) -> Form
     ensures { result ≡ spec.meta scalars.now }
 {
-    if is_text_at(scalars, 0, "new.target") {
+    if scalars.is_text_at(0, "new.target") {
         return Form::NewTarget;
     }
     Form::ImportMeta
@@ -247,13 +180,13 @@ fn meta(scalars: &Scalars) -> Form
 fn arrow(scalars: &Scalars) -> Form
     ensures { result ≡ spec.arrow scalars.now }
 {
-    Form::Arrow(Flow::new(is_truth_at(scalars, 0, true), false))
+    Form::Arrow(Flow::new(scalars.is_truth_at(0, true), false))
 }
 
 fn yielding(tree: &Tree) -> Form
     ensures { result ≡ spec.yielding (syntax tree.now) }
 {
-    if is_truth_at(&tree.scalars, 0, true) {
+    if tree.scalars.is_truth_at(0, true) {
         return Form::YieldStar;
     }
     match child(tree, 0) {
@@ -263,41 +196,29 @@ fn yielding(tree: &Tree) -> Form
 }
 
 // Whether a place takes names that may be any word.
-fn takes_any_name(category: SlotCategory) -> bool
-    ensures { result ≡ spec.takes_any_name category }
+fn any_name_at(category: Category) -> bool
+    ensures { result ≡ spec.any_name_at category }
 {
     match category {
-        SlotCategory::Usual(usual) => match usual {
-            Category::AnyName
-            | Category::Member
-            | Category::SuperMember
-            | Category::ObjectKey
-            | Category::ClassKey => true,
-            _ => false,
-        },
+        Category::AnyName
+        | Category::Member
+        | Category::SuperMember
+        | Category::ObjectKey
+        | Category::ClassKey => true,
         _ => false,
     }
 }
 
-fn name(category: SlotCategory) -> Form
+fn name(category: Category) -> Form
     ensures { result ≡ spec.name category }
 {
-    if takes_any_name(category) {
+    if any_name_at(category) {
         return Form::AnyName;
     }
     Form::Name
 }
 
 // A function that runs so, as the value of a method or by itself.
-fn function(category: SlotCategory, flow: Flow) -> Form
-    ensures { result ≡ spec.function category flow }
-{
-    match category {
-        SlotCategory::Usual(usual) => method_value(usual, flow),
-        _ => Form::Function(flow),
-    }
-}
-
 fn method_value(category: Category, flow: Flow) -> Form
     ensures { result ≡ spec.method_value category flow }
 {
@@ -324,30 +245,29 @@ fn accessor(value: Form, flow: Flow) -> Form
     }
 }
 
-fn rest(category: SlotCategory) -> Form
+fn rest(category: Category) -> Form
     ensures { result ≡ spec.rest category }
 {
     match category {
-        SlotCategory::Usual(Category::BindingProperty)
-        | SlotCategory::Assigned(Category::BindingProperty) => Form::NameRest,
+        Category::BindingProperty | Category::AssignedProperty => Form::NameRest,
         _ => Form::Rest,
     }
 }
 
-fn block(category: SlotCategory) -> Form
+fn block(category: Category) -> Form
     ensures { result ≡ spec.block category }
 {
     match category {
-        SlotCategory::Usual(Category::FunctionBody) | SlotCategory::ArrowBody => Form::FunctionBody,
+        Category::FunctionBody | Category::ArrowBody => Form::FunctionBody,
         _ => Form::Block,
     }
 }
 
-fn variables(category: SlotCategory, variable: Variable) -> Form
+fn variables(category: Category, variable: Variable) -> Form
     ensures { result ≡ spec.variables category variable }
 {
     match category {
-        SlotCategory::ForInit | SlotCategory::ForLeft(_) => Form::HeadVariables(variable),
+        Category::ForInit | Category::ForLeft => Form::HeadVariables(variable),
         _ => Form::Variables(variable),
     }
 }
@@ -364,7 +284,7 @@ fn case(tree: &Tree) -> Form
 fn for_of(scalars: &Scalars) -> Form
     ensures { result ≡ spec.for_of scalars.now }
 {
-    if is_truth_at(scalars, 0, true) {
+    if scalars.is_truth_at(0, true) {
         return Form::ForAwait;
     }
     Form::ForOf
@@ -373,7 +293,7 @@ fn for_of(scalars: &Scalars) -> Form
 fn import_specifier(scalars: &Scalars) -> Form
     ensures { result ≡ spec.import_specifier scalars.now }
 {
-    if is_truth_at(scalars, 0, true) {
+    if scalars.is_truth_at(0, true) {
         return Form::ImportShorthand;
     }
     Form::ImportSpecifier
@@ -382,7 +302,7 @@ fn import_specifier(scalars: &Scalars) -> Form
 fn export_specifier(scalars: &Scalars) -> Form
     ensures { result ≡ spec.export_specifier scalars.now }
 {
-    if is_truth_at(scalars, 0, true) {
+    if scalars.is_truth_at(0, true) {
         return Form::ExportShorthand;
     }
     Form::ExportSpecifier
@@ -402,7 +322,7 @@ fn export_default(tree: &Tree) -> Form
 {
     match child(tree, 0) {
         Some(declared) => {
-            if is_kind(declared, Kind::FunctionDeclaration, Kind::ClassDeclaration) {
+            if is_function_or_class(declared) {
                 return Form::ExportDefaultDeclaration;
             }
             Form::ExportDefault
@@ -417,22 +337,25 @@ fn operation(kind: Kind, scalars: &Scalars) -> Option<Form>
 {
     match kind {
         Kind::UpdateExpression => {
-            let operator = operator_in(&UPDATES, scalars)?;
-            if is_truth_at(scalars, 1, true) {
+            let operator = operator_in(Role::Update, scalars)?;
+            if scalars.is_truth_at(1, true) {
                 return Some(Form::Prefix(operator));
             }
             Some(Form::Postfix(operator))
         }
-        Kind::UnaryExpression => Some(Form::Unary(operator_in(&UNARIES, scalars)?)),
-        Kind::BinaryExpression => Some(Form::Binary(operator_in(&BINARIES, scalars)?)),
-        Kind::LogicalExpression => Some(Form::Logical(operator_in(&LOGICALS, scalars)?)),
-        Kind::AssignmentExpression => Some(Form::Assignment(operator_in(&ASSIGNMENTS, scalars)?)),
+        Kind::UnaryExpression => Some(Form::Unary(operator_in(Role::Unary, scalars)?)),
+        Kind::BinaryExpression => Some(Form::Binary(operator_in(Role::Binary, scalars)?)),
+        Kind::LogicalExpression => Some(Form::Logical(operator_in(Role::Logical, scalars)?)),
+        Kind::AssignmentExpression => Some(Form::Assignment(operator_in(
+            Role::Assignment,
+            scalars,
+        )?)),
         _ => None,
     }
 }
 
 // The form of an expression, a pattern or a part of one.
-fn expression(kind: Kind, category: SlotCategory, tree: &Tree) -> Option<Form>
+fn expression(kind: Kind, category: Category, tree: &Tree) -> Option<Form>
     ensures { result ≡ spec.expression kind category (syntax tree.now) }
 {
     let scalars = &tree.scalars;
@@ -444,7 +367,7 @@ fn expression(kind: Kind, category: SlotCategory, tree: &Tree) -> Option<Form>
         Kind::ArrayExpression => Some(Form::Array),
         Kind::ObjectExpression => Some(Form::Object),
         Kind::Property => Some(property(tree)),
-        Kind::FunctionExpression => Some(function(category, flow_in(scalars))),
+        Kind::FunctionExpression => Some(method_value(category, flow_in(scalars))),
         Kind::ArrowFunctionExpression => Some(arrow(scalars)),
         Kind::ClassExpression => Some(Form::Class),
         Kind::ClassBody => Some(Form::ClassBody),
@@ -495,7 +418,7 @@ fn module_item(kind: Kind, tree: &Tree) -> Option<Form>
 }
 
 // The form of the kind, by its scalars and children and by what the place takes.
-fn chosen(kind: Kind, category: SlotCategory, tree: &Tree) -> Option<Form>
+fn chosen(kind: Kind, category: Category, tree: &Tree) -> Option<Form>
     ensures { result ≡ spec.chosen kind category (syntax tree.now) }
 {
     match kind {
@@ -537,16 +460,15 @@ fn chosen(kind: Kind, category: SlotCategory, tree: &Tree) -> Option<Form>
     }
 }
 
-/// The form that made text gives the tree at a place with the slot, `None` where no form of its kind
-/// has its scalars. A place that does not take the tree counts as one for what is assigned to, for a
+/// The form that made text gives the tree at the place, `None` where no form of its kind has its
+/// scalars. A place that does not take the tree counts as one for what is assigned to, for a
 /// function by itself, or for a declaration outside heads.
-pub fn form(tree: &Tree, slot: SlotDef) -> Option<Variant>
-    ensures { result ≡ spec.form slot.category (syntax tree.now) }
+pub fn form(tree: &Tree, place: Place) -> Option<Variant>
+    ensures { result ≡ spec.form place.category (syntax tree.now) }
 {
-    let kind = Kind::from_number(tree.kind)?;
-    let form = chosen(kind, slot.category, tree)?;
+    let form = chosen(tree.kind, place.category, tree)?;
     if has_scalars(form, &tree.scalars) {
-        let spelling = spelling(form, slot.category, tree);
+        let spelling = spelling(form, place.category, tree);
         return Some(Variant { form, spelling });
     }
     None

@@ -5,17 +5,19 @@ ghost use Rattle.tree_core.specs.View.{syntax, slot_view, place_view, slots_of, 
 ghost use Rattle.tree_forms.specs.Edges as spec;
 
 use crate::choosing::form;
-use crate::slot_def::{Change, SlotCategory, SlotDef, Variant};
-use crate::slots::slot;
-use js_forms::{Access, Category, Flow, Form, Key, Link, Scope, Standing};
-use tree_core::{Comment, Place, Slot, Tree};
-use type_defs::is_a;
+use crate::slots::{begins_bare, slot};
+use crate::variant::Variant;
+use js_forms::{
+    CALL, Category, Form, Link, MEMBER, PRIMARY, Place, SEQUENCE, Scope, is_optional, spelled_level,
+};
+use tree_core::{Comment, Slot, Tree};
+use type_defs::{Group, Kind, NodeType, is_a};
 
-/// The slot of an expression that may be any.
-pub const ALONE: SlotDef = SlotDef {
-    category: SlotCategory::Usual(Category::Expression),
-    least: 0,
-    change: Change::Usual(Scope::Same),
+/// The place of an expression that may be any.
+pub const ALONE: Place = Place {
+    category: Category::Expression,
+    least: SEQUENCE,
+    scope: Scope::Same,
 };
 
 /// The left end of a tree.
@@ -23,128 +25,75 @@ pub const ALONE: SlotDef = SlotDef {
 pub struct Edge {
     /// The level of the expression.
     pub level: u8,
-    /// Whether an optional link is bare in it.
-    pub chained: bool,
+    /// How many links of a chain go from here down to the lowest that is optional and bare.
+    pub links: u32,
     /// Whether parentheses may stand around it.
     pub groups: bool,
     /// Whether comments come to stand before it.
     pub noted: bool,
 }
 
-/// Whether an expression in the slot may stand in parentheses.
-pub fn takes_groups(category: SlotCategory) -> bool
+/// Whether an expression in the place may stand in parentheses.
+pub fn takes_groups(category: Category) -> bool
     ensures { result ≡ spec.takes_groups category }
 {
     match category {
-        SlotCategory::Usual(usual) => match usual {
-            Category::Expression
-            | Category::Cover
-            | Category::Argument
-            | Category::Element
-            | Category::Callee
-            | Category::Target => true,
-            _ => false,
-        },
-        SlotCategory::Assigned(assigned) => match assigned {
-            Category::Binding | Category::BindingValue | Category::BindingElement => true,
-            _ => false,
-        },
-        SlotCategory::Operand(_)
-        | SlotCategory::ArrowBody
-        | SlotCategory::ForInit
-        | SlotCategory::ForLeft(_) => true,
+        Category::Expression
+        | Category::Cover
+        | Category::Argument
+        | Category::Element
+        | Category::Callee
+        | Category::Target
+        | Category::Assigned
+        | Category::AssignedValue
+        | Category::AssignedElement
+        | Category::Operand
+        | Category::ArrowBody
+        | Category::ForInit
+        | Category::ForLeft => true,
         _ => false,
     }
 }
 
-// Whether no word stands before the key.
-fn is_bare_key(key: Key) -> bool
-    ensures { result ≡ spec.is_bare_key key }
-{
-    match key {
-        Key::Plain => true,
-        Key::Computed => false,
-    }
-}
-
-// Whether a method begins with its key.
-fn begins_with_key(access: Access, flow: Flow, key: Key) -> bool
-    ensures { result ≡ spec.begins_with_key access flow key }
-{
-    match access {
-        Access::Get | Access::Set => false,
-        Access::Method | Access::Constructor => match flow {
-            Flow::Plain => is_bare_key(key),
-            _ => false,
-        },
-    }
-}
-
-fn is_instance(standing: Standing) -> bool
-    ensures { result ≡ spec.is_instance standing }
-{
-    match standing {
-        Standing::Instance => true,
-        Standing::Static => false,
-    }
-}
-
-/// Whether the form begins with its first child, with no word before it.
-pub fn begins_bare(form: Form) -> bool
-    ensures { result ≡ spec.begins_bare form }
+// The link of a member or a call.
+fn link_in(form: Form) -> Option<Link>
+    ensures { result ≡ spec.link_in form }
 {
     match form {
-        Form::Property(key) | Form::PatternProperty(key) => is_bare_key(key),
-        Form::PropertyMethod(access, flow, key) => begins_with_key(access, flow, key),
-        Form::Method(access, standing, flow, key) => {
-            is_instance(standing) && begins_with_key(access, flow, key)
-        }
-        Form::Field(standing, key) => is_instance(standing) && is_bare_key(key),
-        Form::ShorthandProperty
-        | Form::PatternShorthand
-        | Form::Tagged
-        | Form::Dot(_)
-        | Form::Index(_)
-        | Form::Call(_)
-        | Form::Postfix(_)
-        | Form::Binary(_)
-        | Form::Logical(_)
-        | Form::Conditional
-        | Form::Assignment(_)
-        | Form::Sequence
-        | Form::Chain
-        | Form::Default
-        | Form::ExpressionStatement
-        | Form::Labeled
-        | Form::Declarator
-        | Form::ImportSpecifier
-        | Form::ImportShorthand
-        | Form::ImportDefault
-        | Form::ExportSpecifier
-        | Form::ExportShorthand => true,
-        _ => false,
+        Form::Dot(link) | Form::Index(link) | Form::Call(link) => Some(link),
+        _ => None,
     }
 }
 
-fn is_optional(link: Link, below: Option<Edge>) -> bool
-    ensures { result ≡ spec.is_optional link below }
+fn below_links(below: Option<Edge>) -> u32
+    ensures { result ≡ spec.below_links below }
+{
+    match below {
+        Some(first) => first.links,
+        None => 0,
+    }
+}
+
+pub fn links_with(link: Option<Link>, below: u32) -> u32
+    ensures { result ≡ spec.links_with link below }
 {
     match link {
-        Link::Optional => true,
-        Link::Plain => match below {
-            Some(first) => first.chained,
-            None => false,
-        },
+        Some(link) => {
+            if below != 0 {
+                return below.saturating_add(1);
+            }
+            if is_optional(link) { 1 } else { 0 }
+        }
+        None => 0,
     }
 }
 
-// Whether an optional link is bare in a node of the form over this first child.
-fn is_chained(form: Form, below: Option<Edge>) -> bool
-    ensures { result ≡ spec.is_chained form below }
+pub fn link_of(variant: Option<Variant>) -> Option<Link>
+    ensures { result ≡ spec.link_of variant }
 {
-    match form {
-        Form::Dot(link) | Form::Index(link) | Form::Call(link) => is_optional(link, below),
-        _ => false,
+    match variant {
+        Some(variant) => link_in(variant.form),
+        None => None,
     }
 }
 
@@ -153,7 +102,7 @@ fn first_groups(variant: Variant, first: Edge) -> bool
     ensures { result ≡ spec.first_groups variant first }
 {
     match slot(variant, 0) {
-        Some(def) => takes_groups(def.category) && first.groups,
+        Some(place) => takes_groups(place.category) && first.groups,
         None => false,
     }
 }
@@ -164,23 +113,30 @@ fn member_level(variant: Variant, below: Option<Edge>) -> u8
 {
     match below {
         Some(first) => {
-            if first.level == 17 && !(first.noted && first_groups(variant, first)) {
-                17
+            if first.level == CALL && !(first.noted && first_groups(variant, first)) {
+                CALL
             } else {
-                18
+                MEMBER
             }
         }
-        None => 18,
+        None => MEMBER,
     }
+}
+
+// Whether it is a member or a tagged template.
+fn is_member(form: Form) -> bool
+    ensures { result ≡ spec.is_member form }
+{
+    matches!(form, Form::Dot(_) | Form::Index(_) | Form::Tagged)
 }
 
 fn level_over(variant: Variant, below: Option<Edge>) -> u8
     ensures { result ≡ spec.level_over variant below }
 {
-    match variant.form {
-        Form::Dot(_) | Form::Index(_) | Form::Tagged => member_level(variant, below),
-        form => js_forms::level(form),
+    if is_member(variant.form) {
+        return member_level(variant, below);
     }
+    spelled_level(variant.form, variant.spelling)
 }
 
 // Whether the comments before the first child come to stand before the node.
@@ -188,9 +144,7 @@ fn rises(variant: Variant, below: Option<Edge>) -> bool
     ensures { result ≡ spec.rises variant below }
 {
     match below {
-        Some(first) => {
-            begins_bare(variant.form) && (first.noted && !first_groups(variant, first))
-        }
+        Some(first) => { begins_bare(variant) && (first.noted && !first_groups(variant, first)) }
         None => false,
     }
 }
@@ -201,26 +155,40 @@ fn has_any(comments: &[Comment]) -> bool
     !comments.is_empty()
 }
 
+/// Whether it is the kind of an expression.
+pub fn is_expression(kind: Kind) -> bool
+    ensures { result ≡ spec.is_expression kind }
+{
+    is_a(kind, NodeType::Group(Group::Expression))
+}
+
+fn level_of(variant: Option<Variant>, below: Option<Edge>) -> u8
+    ensures { result ≡ spec.level_of variant below }
+{
+    match variant {
+        Some(variant) => level_over(variant, below),
+        None => PRIMARY,
+    }
+}
+
+fn rises_of(variant: Option<Variant>, below: Option<Edge>) -> bool
+    ensures { result ≡ spec.rises_of variant below }
+{
+    match variant {
+        Some(variant) => rises(variant, below),
+        None => false,
+    }
+}
+
 fn over(variant: Option<Variant>, tree: &Tree, below: Option<Edge>) -> Edge
     ensures { result ≡ spec.edge_over variant tree.now.kind tree.now.notes.lead below }
 {
-    let noted = has_any(tree.notes.lead());
-    match variant {
-        Some(variant) => {
-            let chained = is_chained(variant.form, below);
-            Edge {
-                level: level_over(variant, below),
-                chained,
-                groups: is_a(tree.kind, 101) && !chained,
-                noted: noted || rises(variant, below),
-            }
-        }
-        None => Edge {
-            level: 19,
-            chained: false,
-            groups: is_a(tree.kind, 101),
-            noted,
-        },
+    let links = links_with(link_of(variant), below_links(below));
+    Edge {
+        level: level_of(variant, below),
+        links,
+        groups: is_expression(tree.kind) && links == 0,
+        noted: has_any(tree.notes.lead()) || rises_of(variant, below),
     }
 }
 
@@ -254,7 +222,7 @@ fn slot_edge(slot: &Slot) -> Option<Edge>
 }
 
 #[cycle(edges)]
-fn places_edge(places: &[Place]) -> Option<Edge>
+fn places_edge(places: &[tree_core::Place]) -> Option<Edge>
     ensures { result ≡ spec.places_edge (places_of (map place_view places.now)) }
 {
     if places.is_empty() {
@@ -264,7 +232,7 @@ fn places_edge(places: &[Place]) -> Option<Edge>
 }
 
 #[cycle(edges)]
-fn place_edge(place: &Place) -> Option<Edge>
+fn place_edge(place: &tree_core::Place) -> Option<Edge>
     ensures { result ≡ spec.places_edge (places_of (place_view place.now ∷ [])) }
 {
     match &place.node {

@@ -1,27 +1,20 @@
-//! What a text spells: the table of forms, made whole, and the relation between a text and a tree.
-//!
-//! The relation stands in `specs/Spells.antt`. It interprets the pieces of each form, which
-//! `specs/Spellings.antt` makes of the table of `js_forms`.
+//! The form of a tree, what its slots take, and the level of an expression.
 #![tactic(auto)]
 
-mod children;
+mod chains;
 mod choosing;
-mod context;
 mod edges;
 mod fronts;
-mod places;
 mod reading;
-mod seating;
-mod slot_def;
 mod slots;
 mod spellings;
 #[cfg(test)]
 mod tests;
+mod variant;
 
+pub use chains::{links, links_below};
 pub use choosing::form;
-pub use context::Context;
-pub use edges::level;
-pub use places::{is_declaration, is_statement, takes};
-pub use seating::{Seat, Seats, seats};
-pub use slot_def::{Change, SlotCategory, SlotDef, Variant};
-pub use slots::slot;
+pub use edges::{ALONE, Edge, is_expression, left_end, level, takes_groups};
+pub use reading::child;
+pub use slots::{begins_bare, ends_bare, is_mirror, slot, slot_at, spells_at_most};
+pub use variant::Variant;

@@ -1,426 +1,340 @@
-//! The slots of each form.
+//! What the slots of each form take, and what a form is at its ends: told by its pieces.
 
-ghost use Rattle.std.specs.Prelude.{◌≡◌};
+ghost use Rattle.std.specs.Prelude.{◌≡◌, Some, true};
+ghost use Rattle.std.specs.List.{list_all};
 ghost use Rattle.tree_forms.specs.Slots as spec;
 
-use crate::slot_def::{Change, SlotCategory, SlotDef, Variant};
-use js_forms::{Access, Category, Flow, Form, Key, Left, Scope, first_child, right};
+use crate::variant::Variant;
+use js_forms::{
+    CALL, Category, Form, Left, Piece, Place, Scope, first_child, first_row, pieces, plain,
+    second_row,
+};
 
-fn taking(category: SlotCategory, least: u8, change: Change) -> Option<SlotDef>
-    ensures { result ≡ spec.taking category least change }
+// How many slots a piece fills that is no choice.
+fn width(piece: Piece) -> usize
+    ensures { result ≡ spec.width piece }
 {
-    Some(SlotDef {
-        category,
-        least,
-        change,
-    })
-}
-
-fn usual(category: Category, least: u8, scope: Scope) -> Option<SlotDef>
-    ensures { result ≡ spec.usual category least scope }
-{
-    taking(SlotCategory::Usual(category), least, Change::Usual(scope))
-}
-
-fn name() -> Option<SlotDef>
-    ensures { result ≡ spec.name }
-{
-    usual(Category::Name, 0, Scope::Same)
-}
-
-fn any_name() -> Option<SlotDef>
-    ensures { result ≡ spec.any_name }
-{
-    usual(Category::AnyName, 0, Scope::Same)
-}
-
-fn expression(least: u8) -> Option<SlotDef>
-    ensures { result ≡ spec.expression least }
-{
-    usual(Category::Expression, least, Scope::Same)
-}
-
-fn free(least: u8) -> Option<SlotDef>
-    ensures { result ≡ spec.free least }
-{
-    usual(Category::Expression, least, Scope::Free)
-}
-
-fn body() -> Option<SlotDef>
-    ensures { result ≡ spec.body }
-{
-    usual(Category::Statement, 0, Scope::Same)
-}
-
-fn block() -> Option<SlotDef>
-    ensures { result ≡ spec.block }
-{
-    usual(Category::Block, 0, Scope::Same)
-}
-
-fn parameters() -> Option<SlotDef>
-    ensures { result ≡ spec.parameters }
-{
-    usual(Category::BindingElement, 1, Scope::Parameters)
-}
-
-fn function_body() -> Option<SlotDef>
-    ensures { result ≡ spec.function_body }
-{
-    usual(Category::FunctionBody, 0, Scope::Body)
-}
-
-// A part of a pattern that declares (0) or assigns.
-fn part(spelling: u8, category: Category, least: u8) -> Option<SlotDef>
-    ensures { result ≡ spec.part spelling category least }
-{
-    if spelling == 0 {
-        return usual(category, least, Scope::Free);
-    }
-    taking(
-        SlotCategory::Assigned(category),
-        least,
-        Change::Usual(Scope::Free),
-    )
-}
-
-fn key(category: Category, key: Key) -> Option<SlotDef>
-    ensures { result ≡ spec.key category key }
-{
-    match key {
-        Key::Plain => usual(category, 0, Scope::Free),
-        Key::Computed => free(1),
+    match piece {
+        Piece::Child(_)
+        | Piece::First(_)
+        | Piece::Hole
+        | Piece::NoList(_)
+        | Piece::Row(_, _)
+        | Piece::Commas(_, _, _) => 1,
+        Piece::Twins(_, _) | Piece::Template(_) => 2,
+        _ => 0,
     }
 }
 
-fn method_value(access: Access, flow: Flow) -> Option<SlotDef>
-    ensures { result ≡ spec.method_value access flow }
+fn filler(pieces: &[Piece]) -> Piece
+    ensures { result ≡ spec.filler pieces.now }
 {
-    match access {
-        Access::Get => usual(Category::Getter, 0, Scope::Same),
-        Access::Set => usual(Category::Setter, 0, Scope::Same),
-        Access::Method | Access::Constructor => usual(Category::Method(flow), 0, Scope::Same),
+    for piece in pieces {
+        if width(*piece) != 0 {
+            return *piece;
+        }
+    }
+    Piece::Nothing
+}
+
+// The piece as the form tells it, and of a choice what fills a slot.
+fn seen(form: Form, piece: Piece) -> Piece
+    ensures { result ≡ spec.seen form piece }
+{
+    match plain(form, piece) {
+        Piece::Choice(choice) => filler(first_row(choice)),
+        other => other,
     }
 }
 
-// The least level of what a form begins with.
-fn operand_level(form: Form) -> u8
-    ensures { result ≡ spec.operand_level form }
+fn left_level(left: Left) -> u8
+    ensures { result ≡ spec.left_level left }
 {
-    match first_child(form) {
+    match left {
         Left::Level(least) | Left::Coalescing(least) | Left::Other(least) => least,
-        Left::Object => 17,
+        Left::Object => CALL,
         Left::Simple => 0,
     }
 }
 
-fn operand(form: Form) -> Option<SlotDef>
-    ensures { result ≡ spec.operand form }
+fn is_chain(form: Form) -> bool
+    ensures { result ≡ spec.is_chain form }
 {
-    taking(
-        SlotCategory::Operand(form),
-        operand_level(form),
-        Change::Usual(Scope::Same),
-    )
+    matches!(form, Form::Chain)
 }
 
-fn for_left(form: Form) -> Option<SlotDef>
-    ensures { result ≡ spec.for_left form }
+fn operand_level(form: Form) -> u8
+    ensures { result ≡ spec.operand_level form }
 {
-    taking(SlotCategory::ForLeft(form), 0, Change::WithoutIn)
-}
-
-fn same(category: SlotCategory) -> Option<SlotDef>
-    ensures { result ≡ spec.same category }
-{
-    taking(category, 0, Change::Usual(Scope::Same))
-}
-
-fn default_left(spelling: u8) -> Option<SlotDef>
-    ensures { result ≡ spec.default_left spelling }
-{
-    if spelling == 0 {
-        return usual(Category::Binding, 0, Scope::Same);
+    if is_chain(form) {
+        return CALL;
     }
-    if spelling == 1 {
-        return same(SlotCategory::Assigned(Category::Binding));
-    }
-    name()
+    left_level(first_child(form))
 }
 
-fn name_rest(spelling: u8) -> Option<SlotDef>
-    ensures { result ≡ spec.name_rest spelling }
+fn listed(category: Category) -> Category
+    ensures { result ≡ spec.listed category }
 {
-    if spelling == 0 {
-        return name();
+    match category {
+        Category::ImportSpecifier => Category::Imports,
+        other => other,
     }
-    usual(Category::Target, 15, Scope::Same)
 }
 
-fn callee(spelling: u8) -> Option<SlotDef>
-    ensures { result ≡ spec.callee spelling }
+fn is_mirror_of(before: bool, number: usize) -> bool
+    ensures { result ≡ spec.is_mirror_of before number }
 {
-    if spelling == 16 {
-        return usual(Category::Callee, 18, Scope::Same);
-    }
-    expression(18)
+    if before { number == 0 } else { number == 1 }
 }
 
-fn declared(spelling: u8) -> Option<SlotDef>
-    ensures { result ≡ spec.declared spelling }
+// What the slot of this number takes, among those that the piece fills.
+fn place_in(form: Form, piece: Piece, number: usize) -> Option<Place>
+    ensures { result ≡ spec.place_in form piece number }
 {
-    if spelling == 0 {
-        return name();
+    match piece {
+        Piece::Child(place) | Piece::Row(place, _) => Some(place),
+        Piece::First(place) => Some(Place {
+            least: operand_level(form),
+            ..place
+        }),
+        Piece::NoList(place) => place,
+        Piece::Commas(place, _, _) => Some(Place {
+            category: listed(place.category),
+            ..place
+        }),
+        Piece::Twins(before, place) => Some(twin_place(before, place, number)),
+        Piece::Template(_) => Some(template_place(number)),
+        _ => None,
     }
-    usual(Category::Binding, 0, Scope::Same)
 }
 
-fn value(spelling: u8) -> Option<SlotDef>
-    ensures { result ≡ spec.value spelling }
+fn twin_place(before: bool, place: Place, number: usize) -> Place
+    ensures { spec.place_in Form.Chain (Piece.Twins before place) number ≡ Some result }
 {
-    if spelling == 2 {
-        return expression(1);
+    if is_mirror_of(before, number) {
+        Place {
+            category: Category::AnyName,
+            least: 0,
+            scope: Scope::Same,
+        }
+    } else {
+        place
+    }
+}
+
+fn template_place(number: usize) -> Place
+    ensures { spec.place_in Form.Chain (Piece.Template true) number ≡ Some result }
+{
+    if number == 0 {
+        Place {
+            category: Category::Characters,
+            least: 0,
+            scope: Scope::Same,
+        }
+    } else {
+        Place {
+            category: Category::Expression,
+            least: 0,
+            scope: Scope::Free,
+        }
+    }
+}
+
+fn slot_in(form: Form, pieces: &[Piece], number: usize) -> Option<Place>
+    ensures { result ≡ spec.slot_in form pieces.now number }
+{
+    let mut left = number;
+    for piece in pieces {
+        let piece = seen(form, *piece);
+        if left < width(piece) {
+            return place_in(form, piece, left);
+        }
+        left -= width(piece);
     }
     None
 }
 
-fn local(spelling: u8) -> Option<SlotDef>
-    ensures { result ≡ spec.local spelling }
-{
-    if spelling == 0 { any_name() } else { name() }
-}
-
-fn exports(spelling: u8) -> Option<SlotDef>
-    ensures { result ≡ spec.exports spelling }
-{
-    if spelling == 0 {
-        return usual(Category::ExportSpecifier, 0, Scope::Same);
-    }
-    same(SlotCategory::OwnExport)
-}
-
-fn source(spelling: u8) -> Option<SlotDef>
-    ensures { result ≡ spec.source spelling }
-{
-    if spelling == 0 {
-        return usual(Category::Source, 0, Scope::Same);
-    }
-    None
-}
-
-// The one table's row, or else the other's.
-fn or(one: Option<SlotDef>, other: Option<SlotDef>) -> Option<SlotDef>
-    ensures { result ≡ spec.or one other }
-{
-    match one {
-        Some(row) => Some(row),
-        None => other,
-    }
-}
-
-// The first slot of an expression or of a part of one.
-fn first_of_expression(form: Form, spelling: u8) -> Option<SlotDef>
-    ensures { result ≡ spec.first_of_expression form spelling }
-{
-    match form {
-        Form::Array => usual(Category::Element, 1, Scope::Free),
-        Form::Object => usual(Category::ObjectItem, 1, Scope::Free),
-        Form::Property(at) | Form::PropertyMethod(_, _, at) | Form::PatternProperty(at) => {
-            key(Category::ObjectKey, at)
-        }
-        Form::Method(_, _, _, at) | Form::Field(_, at) => key(Category::ClassKey, at),
-        Form::ShorthandProperty | Form::PatternShorthand => any_name(),
-        Form::Function(_) | Form::FunctionDeclaration(_) | Form::Class | Form::ClassDeclaration =>
-            name(),
-        Form::Arrow(_) => parameters(),
-        Form::ClassBody => usual(Category::ClassItem, 0, Scope::Same),
-        Form::StaticBlock => usual(Category::Item, 0, Scope::Field),
-        Form::Template => same(SlotCategory::Characters),
-        Form::Spread => usual(Category::Cover, 1, Scope::Free),
-        Form::ArrayPattern => part(spelling, Category::BindingElement, 1),
-        Form::ObjectPattern => part(spelling, Category::BindingProperty, 1),
-        Form::Default => default_left(spelling),
-        Form::Rest => part(spelling, Category::Binding, 0),
-        Form::NameRest => name_rest(spelling),
-        _ => None,
-    }
-}
-
-// The first slot of an expression with operands.
-fn first_of_operation(form: Form, spelling: u8) -> Option<SlotDef>
-    ensures { result ≡ spec.first_of_operation form spelling }
-{
-    match form {
-        Form::Tagged
-        | Form::Dot(_)
-        | Form::Index(_)
-        | Form::Call(_)
-        | Form::Postfix(_)
-        | Form::Binary(_)
-        | Form::Logical(_)
-        | Form::Conditional
-        | Form::Assignment(_) => operand(form),
-        Form::Chain => taking(SlotCategory::Operand(form), 17, Change::Usual(Scope::Same)),
-        Form::New => callee(spelling),
-        Form::ImportCall => free(1),
-        Form::Prefix(_) => usual(Category::Target, 15, Scope::Same),
-        Form::Unary(_) | Form::Await => expression(14),
-        Form::YieldValue | Form::YieldStar | Form::Sequence => expression(1),
-        _ => None,
-    }
-}
-
-// The first slot of a statement or of a part of one.
-fn first_of_statement(form: Form, spelling: u8) -> Option<SlotDef>
-    ensures { result ≡ spec.first_of_statement form spelling }
-{
-    match form {
-        Form::Program => taking(
-            SlotCategory::Usual(Category::ModuleItem),
-            0,
-            Change::Directives,
-        ),
-        Form::FunctionBody => taking(SlotCategory::Usual(Category::Item), 0, Change::Directives),
-        Form::ExpressionStatement => { taking(SlotCategory::Operand(form), 0, Change::Stay) }
-        Form::Block => usual(Category::Item, 0, Scope::Same),
-        Form::With | Form::If | Form::Switch | Form::Case | Form::Throw | Form::While => free(0),
-        Form::Return => expression(0),
-        Form::Labeled | Form::Break | Form::Continue => name(),
-        Form::Try => block(),
-        Form::Catch => usual(Category::Binding, 0, Scope::Free),
-        Form::DoWhile => body(),
-        Form::For => taking(SlotCategory::ForInit, 0, Change::WithoutIn),
-        Form::ForIn | Form::ForOf | Form::ForAwait => for_left(form),
-        Form::Variables(word) => same(SlotCategory::Declarator(word)),
-        Form::HeadVariables(word) => {
-            if spelling == 0 {
-                return same(SlotCategory::Declarator(word));
-            }
-            same(SlotCategory::LoneDeclarator)
-        }
-        Form::Declarator => declared(spelling),
-        Form::Import => same(SlotCategory::Imports),
-        Form::ImportSpecifier | Form::ImportShorthand => any_name(),
-        Form::ImportDefault | Form::ImportNamespace => name(),
-        Form::ExportDeclaration => usual(Category::Declaration, 0, Scope::Same),
-        Form::ExportSpecifier | Form::ExportShorthand => local(spelling),
-        Form::ExportDefault => expression(1),
-        Form::ExportDefaultDeclaration => same(SlotCategory::DefaultDeclaration),
-        Form::ExportAll => any_name(),
-        _ => None,
-    }
-}
-
-fn first(form: Form, spelling: u8) -> Option<SlotDef>
-    ensures { result ≡ spec.first form spelling }
-{
-    or(
-        first_of_expression(form, spelling),
-        or(
-            first_of_operation(form, spelling),
-            first_of_statement(form, spelling),
-        ),
-    )
-}
-
-// The second slot of an expression or of a part of one.
-fn second_of_expression(form: Form, spelling: u8) -> Option<SlotDef>
-    ensures { result ≡ spec.second_of_expression form spelling }
-{
-    match form {
-        Form::Property(_) => usual(Category::Cover, 1, Scope::Free),
-        Form::ShorthandProperty => name(),
-        Form::PropertyMethod(access, flow, _) | Form::Method(access, _, flow, _) => {
-            method_value(access, flow)
-        }
-        Form::Function(_) | Form::FunctionDeclaration(_) | Form::MethodValue(_) => parameters(),
-        Form::SetterValue => usual(Category::BindingValue, 1, Scope::Parameters),
-        Form::Arrow(_) => taking(SlotCategory::ArrowBody, 1, Change::ArrowBody),
-        Form::Class | Form::ClassDeclaration => expression(16),
-        Form::Field(_, _) => usual(Category::Expression, 1, Scope::Field),
-        Form::Template | Form::Index(_) => free(0),
-        Form::Tagged => usual(Category::Template, 0, Scope::Same),
-        Form::Dot(_) => usual(Category::Member, 0, Scope::Same),
-        Form::Call(_) | Form::New => usual(Category::Argument, 1, Scope::Free),
-        Form::Binary(operator) | Form::Logical(operator) => expression(right(operator)),
-        Form::Conditional | Form::Default => free(1),
-        Form::Assignment(_) => expression(1),
-        Form::PatternProperty(_) => part(spelling, Category::BindingValue, 1),
-        Form::PatternShorthand => same(SlotCategory::ShortValue),
-        _ => None,
-    }
-}
-
-fn second_of_statement(form: Form, spelling: u8) -> Option<SlotDef>
-    ensures { result ≡ spec.second_of_statement form spelling }
-{
-    match form {
-        Form::With | Form::Labeled | Form::If | Form::While => body(),
-        Form::Switch => usual(Category::Case, 0, Scope::Same),
-        Form::Case | Form::DefaultCase => usual(Category::Item, 0, Scope::Same),
-        Form::Try => usual(Category::Catch, 0, Scope::Same),
-        Form::Catch => block(),
-        Form::DoWhile => free(0),
-        Form::For | Form::ForIn => expression(0),
-        Form::ForOf | Form::ForAwait => expression(1),
-        Form::Declarator => value(spelling),
-        Form::Import | Form::ExportAll => source(0),
-        Form::ImportSpecifier | Form::ImportShorthand => name(),
-        Form::ExportNames => exports(spelling),
-        Form::ExportSpecifier | Form::ExportShorthand => any_name(),
-        _ => None,
-    }
-}
-
-fn second(form: Form, spelling: u8) -> Option<SlotDef>
-    ensures { result ≡ spec.second form spelling }
-{
-    or(
-        second_of_expression(form, spelling),
-        second_of_statement(form, spelling),
-    )
-}
-
-// The third slot.
-fn third(form: Form, spelling: u8) -> Option<SlotDef>
-    ensures { result ≡ spec.third form spelling }
-{
-    match form {
-        Form::Function(_)
-        | Form::FunctionDeclaration(_)
-        | Form::MethodValue(_)
-        | Form::GetterValue
-        | Form::SetterValue => function_body(),
-        Form::Class | Form::ClassDeclaration => usual(Category::ClassBody, 0, Scope::Class),
-        Form::Conditional => expression(1),
-        Form::If | Form::ForIn | Form::ForOf | Form::ForAwait => body(),
-        Form::Try => block(),
-        Form::For => expression(0),
-        Form::ExportNames => source(spelling),
-        _ => None,
-    }
-}
-
-// The fourth slot.
-fn fourth(form: Form) -> Option<SlotDef>
-    ensures { result ≡ spec.fourth form }
-{
-    match form {
-        Form::For => body(),
-        _ => None,
-    }
-}
-
-/// The slot of this number, in the order of the kind's fields (ESTree), of a node of the form; `None`
-/// where the form has no such slot, or nothing stands there.
-pub fn slot(variant: Variant, number: u8) -> Option<SlotDef>
+/// What the slot of this number takes, of a form in its spelling: `None` where the form has no such
+/// slot, or where nothing may stand in it. The slots are counted in the order of the kind's fields.
+pub fn slot(variant: Variant, number: u8) -> Option<Place>
     ensures { result ≡ spec.slot variant number }
 {
-    match number {
-        0 => first(variant.form, variant.spelling),
-        1 => second(variant.form, variant.spelling),
-        2 => third(variant.form, variant.spelling),
-        3 => fourth(variant.form),
-        _ => None,
+    slot_at(variant, number as usize)
+}
+
+/// The same of any number.
+pub fn slot_at(variant: Variant, number: usize) -> Option<Place>
+    ensures { result ≡ spec.slot variant number }
+{
+    slot_in(variant.form, pieces(variant.form, variant.spelling), number)
+}
+
+fn is_mirror_in(piece: Piece, number: usize) -> bool
+    ensures { result ≡ spec.is_mirror_in piece number }
+{
+    match piece {
+        Piece::Twins(before, _) => is_mirror_of(before, number),
+        _ => false,
     }
+}
+
+fn has_mirror(form: Form, pieces: &[Piece], number: usize) -> bool
+    ensures { result ≡ spec.has_mirror form pieces.now number }
+{
+    let mut left = number;
+    for piece in pieces {
+        let piece = seen(form, *piece);
+        if left < width(piece) {
+            return is_mirror_in(piece, left);
+        }
+        left -= width(piece);
+    }
+    false
+}
+
+/// Whether the slot holds a name that is spelled for another one.
+pub fn is_mirror(variant: Variant, number: usize) -> bool
+    ensures { result ≡ spec.is_mirror variant number }
+{
+    has_mirror(variant.form, pieces(variant.form, variant.spelling), number)
+}
+
+// Whether the piece spells no token where no child is there.
+fn is_quiet(piece: Piece) -> bool
+    ensures { result ≡ spec.is_quiet piece }
+{
+    match piece {
+        Piece::Interpreter
+        | Piece::Token(_)
+        | Piece::Text(_)
+        | Piece::End(_, _)
+        | Piece::Template(_) => false,
+        _ => true,
+    }
+}
+
+fn are_quiet(pieces: &[Piece]) -> bool
+    ensures { result ≡ list_all spec.is_quiet pieces.now }
+{
+    for piece in pieces {
+        if !is_quiet(*piece) {
+            return false;
+        }
+    }
+    true
+}
+
+fn stays_quiet(piece: Piece) -> bool
+    ensures { result ≡ spec.stays_quiet piece }
+{
+    match piece {
+        Piece::Choice(choice) => are_quiet(second_row(choice)),
+        other => is_quiet(other),
+    }
+}
+
+fn all_quiet(form: Form, pieces: &[Piece]) -> bool
+    ensures { result ≡ spec.all_quiet form pieces.now }
+{
+    for piece in pieces {
+        if !stays_quiet(plain(form, *piece)) {
+            return false;
+        }
+    }
+    true
+}
+
+fn ends_in(form: Form, pieces: &[Piece], number: usize) -> bool
+    ensures { result ≡ spec.ends_in form pieces.now number }
+{
+    let mut left = number;
+    for at in 0..pieces.len() {
+        let piece = seen(form, pieces[at]);
+        if left < width(piece) {
+            return !matches!(piece, Piece::Template(_)) && all_quiet(form, &pieces[at + 1..]);
+        }
+        left -= width(piece);
+    }
+    false
+}
+
+/// Whether the form ends with the child in the slot of this number, where none stands behind it,
+/// and has no word there.
+pub fn ends_bare(variant: Variant, number: usize) -> bool
+    ensures { result ≡ spec.ends_bare variant number }
+{
+    ends_in(variant.form, pieces(variant.form, variant.spelling), number)
+}
+
+fn has_children(piece: Piece) -> bool
+    ensures { result ≡ spec.has_children piece }
+{
+    match piece {
+        Piece::Child(_)
+        | Piece::First(_)
+        | Piece::Into(_)
+        | Piece::Row(_, _)
+        | Piece::Commas(_, _, _)
+        | Piece::Twins(_, _) => true,
+        _ => false,
+    }
+}
+
+fn begins_in(form: Form, pieces: &[Piece]) -> bool
+    ensures { result ≡ spec.begins_in form pieces.now }
+{
+    for piece in pieces {
+        let piece = plain(form, *piece);
+        if has_children(piece) {
+            return true;
+        }
+        if !stays_quiet(piece) {
+            return false;
+        }
+    }
+    false
+}
+
+/// Whether the form begins with its first child, with no word before it.
+pub fn begins_bare(variant: Variant) -> bool
+    ensures { result ≡ spec.begins_bare variant }
+{
+    begins_in(variant.form, pieces(variant.form, variant.spelling))
+}
+
+fn tokens_at(category: Category) -> u8
+    ensures { result ≡ spec.tokens_at category }
+{
+    match category {
+        Category::Name | Category::AnyName => 1,
+        _ => 2,
+    }
+}
+
+fn tokens_of(single: bool, piece: Piece) -> u8
+    ensures { result ≡ spec.tokens_of single piece }
+{
+    match piece {
+        Piece::Interpreter | Piece::Token(_) | Piece::Text(_) | Piece::End(_, _) => 1,
+        Piece::Child(place) => tokens_at(place.category),
+        Piece::First(_) | Piece::Into(_) | Piece::Row(_, _) | Piece::Commas(_, _, _) => 2,
+        Piece::Twins(_, _) | Piece::Template(_) => { if single { 1 } else { 2 } }
+        _ => 0,
+    }
+}
+
+/// Whether the pieces spell no more than this many tokens: `single` says that of two children with
+/// one name the other is one token, or that a template has no expressions.
+pub fn spells_at_most(single: bool, form: Form, pieces: &[Piece], most: u8) -> bool
+    ensures { result ≡ spec.spells_at_most single form pieces.now most }
+{
+    let mut left = most;
+    for piece in pieces {
+        let tokens = tokens_of(single, plain(form, *piece));
+        if tokens > left {
+            return false;
+        }
+        left -= tokens;
+    }
+    true
 }

@@ -1,10 +1,10 @@
-//! Groups of kinds, and what is a node of a kind or a group.
+//! Groups of kinds, and what is a node of a kind or of a group.
 
-ghost use Rattle.std.specs.Prelude.{◌≡◌, ◌↔◌, IfSome, IfNone, IsTrue};
-ghost use Rattle.type_defs.specs.Groups.{belongs, group_at, group_name, group_number, is_a, stands_for, IsGroupNamed, IsOfGroup, LacksGroup};
-ghost use Rattle.type_defs.specs.Kinds.{IsNamed, LacksKind};
+ghost use Rattle.std.specs.Prelude.{◌≡◌, ◌↔◌, IfSome, IfNone, IsTrue, length, map};
+ghost use Rattle.type_defs.specs.Groups.{all_groups, group_names, are_groups_in_order, group_name, groups_of, is_among, belongs, stands_for, is_a, type_name, LacksGroup, LacksType};
 
 use crate::kind::{Kind, kind_of};
+use crate::kind_table::kind_rows;
 
 /// A group of kinds.
 #[derive(Clone, Copy, Debug, PartialEq, Eq)]
@@ -17,72 +17,72 @@ pub enum Group {
     Class,
 }
 
+/// A kind or a group: what jscodeshift calls a type.
+#[derive(Clone, Copy, Debug, PartialEq, Eq)]
+pub enum NodeType {
+    Kind(Kind),
+    Group(Group),
+}
+
+/// A row for each group, in the order of the enum.
+pub const GROUPS: &[(Group, &str)] = &[
+    (Group::Expression, "Expression"),
+    (Group::Statement, "Statement"),
+    (Group::Declaration, "Declaration"),
+    (Group::Pattern, "Pattern"),
+    (Group::Function, "Function"),
+    (Group::Class, "Class"),
+];
+
+#[tactic(auto, unfolding(crate::specs::Groups::all_groups, crate::specs::Groups::group_names, crate::specs::Rows::in_order))]
+fn group_rows() -> &'static [(Group, &'static str)]
+    ensures count { length result.now ≡ 6 }
+    ensures order { IsTrue (are_groups_in_order all_groups) }
+    ensures groups { map (λ row. row.0) result.now ≡ all_groups }
+    ensures names { map (λ row. row.1.now) result.now ≡ group_names }
+{
+    GROUPS
+}
+
 impl Group {
-    /// The group of this number, 101 to 106.
-    pub fn from_number(number: u8) -> Option<Group>
-        ensures { result ≡ group_at number }
-    {
-        match number {
-            101 => Some(Group::Expression),
-            102 => Some(Group::Statement),
-            103 => Some(Group::Declaration),
-            104 => Some(Group::Pattern),
-            105 => Some(Group::Function),
-            106 => Some(Group::Class),
-            _ => None,
-        }
-    }
-
-    /// The group's number.
-    pub fn number(self) -> u8
-        ensures value { result ≡ group_number self }
-        ensures back { group_at result ≡ Some self }
-    {
-        match self {
-            Group::Expression => 101,
-            Group::Statement => 102,
-            Group::Declaration => 103,
-            Group::Pattern => 104,
-            Group::Function => 105,
-            Group::Class => 106,
-        }
-    }
-
-    /// The group's name.
+    /// The group's name, as ESTree's interface of the same name.
     pub fn name(self) -> &'static str
         ensures { result.now ≡ group_name self }
     {
-        match self {
-            Group::Expression => "Expression",
-            Group::Statement => "Statement",
-            Group::Declaration => "Declaration",
-            Group::Pattern => "Pattern",
-            Group::Function => "Function",
-            Group::Class => "Class",
-        }
+        group_rows()[self as usize].1
     }
 }
 
-/// The number of the group or the kind of this name.
-pub fn group_of(name: &str) -> Option<u8>
-    ensures found { IfSome result (λ n. IsGroupNamed n name.now) }
+// The group of this name.
+fn group_of(name: &str) -> Option<Group>
+    ensures found { IfSome result (λ group. group_name group ≡ name.now) }
     ensures missing { IfNone result (LacksGroup name.now) }
 {
-    for number in 101..107 {
-        if is_group_named(number, name) {
-            return Some(number);
+    for row in group_rows() {
+        if is_called(row.0, name) {
+            return Some(row.0);
         }
     }
-    kind_of(name)
+    None
 }
 
-/// Whether the group of this number has this name.
-fn is_group_named(number: u8, name: &str) -> bool
-    ensures { IsTrue result ↔ IsOfGroup number name.now }
+fn is_called(group: Group, name: &str) -> bool
+    ensures { IsTrue result ↔ (group_name group ≡ name.now) }
 {
-    match Group::from_number(number) {
-        Some(group) => group.name() == name,
-        None => false,
+    group.name() == name
+}
+
+/// The kind or the group of this name.
+pub fn type_of(name: &str) -> Option<NodeType>
+    ensures found { IfSome result (λ of. type_name of ≡ name.now) }
+    ensures missing { IfNone result (LacksType name.now) }
+{
+    if let Some(kind) = kind_of(name) {
+        return Some(NodeType::Kind(kind));
+    }
+    match group_of(name) {
+        Some(group) => Some(NodeType::Group(group)),
+        None => None,
     }
 }
 
@@ -91,113 +91,36 @@ impl Kind {
     pub fn belongs(self, group: Group) -> bool
         ensures { result ≡ belongs self group }
     {
-        match group {
-            Group::Expression => matches!(
-                self,
-                Kind::Identifier
-                    | Kind::Literal
-                    | Kind::ThisExpression
-                    | Kind::ArrayExpression
-                    | Kind::ObjectExpression
-                    | Kind::FunctionExpression
-                    | Kind::ArrowFunctionExpression
-                    | Kind::ClassExpression
-                    | Kind::TemplateLiteral
-                    | Kind::TaggedTemplateExpression
-                    | Kind::MemberExpression
-                    | Kind::CallExpression
-                    | Kind::NewExpression
-                    | Kind::ImportExpression
-                    | Kind::ChainExpression
-                    | Kind::MetaProperty
-                    | Kind::UpdateExpression
-                    | Kind::UnaryExpression
-                    | Kind::AwaitExpression
-                    | Kind::BinaryExpression
-                    | Kind::LogicalExpression
-                    | Kind::ConditionalExpression
-                    | Kind::AssignmentExpression
-                    | Kind::YieldExpression
-                    | Kind::SequenceExpression
-            ),
-            Group::Statement => matches!(
-                self,
-                Kind::Directive
-                    | Kind::ExpressionStatement
-                    | Kind::BlockStatement
-                    | Kind::EmptyStatement
-                    | Kind::DebuggerStatement
-                    | Kind::WithStatement
-                    | Kind::ReturnStatement
-                    | Kind::LabeledStatement
-                    | Kind::BreakStatement
-                    | Kind::ContinueStatement
-                    | Kind::IfStatement
-                    | Kind::SwitchStatement
-                    | Kind::ThrowStatement
-                    | Kind::TryStatement
-                    | Kind::WhileStatement
-                    | Kind::DoWhileStatement
-                    | Kind::ForStatement
-                    | Kind::ForInStatement
-                    | Kind::ForOfStatement
-                    | Kind::VariableDeclaration
-                    | Kind::FunctionDeclaration
-                    | Kind::ClassDeclaration
-                    | Kind::ImportDeclaration
-                    | Kind::ExportNamedDeclaration
-                    | Kind::ExportDefaultDeclaration
-                    | Kind::ExportAllDeclaration
-            ),
-            Group::Declaration => matches!(
-                self,
-                Kind::VariableDeclaration
-                    | Kind::FunctionDeclaration
-                    | Kind::ClassDeclaration
-                    | Kind::ImportDeclaration
-                    | Kind::ExportNamedDeclaration
-                    | Kind::ExportDefaultDeclaration
-                    | Kind::ExportAllDeclaration
-            ),
-            Group::Pattern => matches!(
-                self,
-                Kind::Identifier
-                    | Kind::MemberExpression
-                    | Kind::ArrayPattern
-                    | Kind::ObjectPattern
-                    | Kind::AssignmentPattern
-                    | Kind::RestElement
-            ),
-            Group::Function => matches!(
-                self,
-                Kind::FunctionExpression | Kind::ArrowFunctionExpression | Kind::FunctionDeclaration
-            ),
-            Group::Class => matches!(self, Kind::ClassExpression | Kind::ClassDeclaration),
-        }
-    }
-
-    /// Whether nodes of the kind count as nodes of another: a directive is also an expression
-    /// statement, and a property of a pattern also a property.
-    fn stands_for(self, kind: u8) -> bool
-        ensures { result ≡ stands_for self kind }
-    {
-        match self {
-            Kind::AssignmentProperty => kind == 7,
-            Kind::Directive => kind == 39,
-            _ => false,
-        }
+        is_among(kind_rows()[self as usize].3, group)
     }
 }
 
-/// Whether a node of the kind is of the group, which is the number of a kind or of a group.
-pub fn is_a(kind: u8, group: u8) -> bool
-    ensures { result ≡ is_a kind group }
+fn is_among(groups: &[Group], group: Group) -> bool
+    ensures { result ≡ is_among groups.now group }
 {
-    let Some(known) = Kind::from_number(kind) else {
-        return false;
-    };
-    match Group::from_number(group) {
-        Some(group) => known.belongs(group),
-        None => kind == group || known.stands_for(group),
+    for one in groups {
+        if *one == group {
+            return true;
+        }
+    }
+    false
+}
+
+// Whether a node of the kind counts as one of another kind too: ESTree's `Directive` extends
+// `ExpressionStatement`, and its `AssignmentProperty` extends `Property`.
+fn stands_for(kind: Kind, other: Kind) -> bool
+    ensures { result ≡ stands_for kind other }
+{
+    (kind == Kind::AssignmentProperty && other == Kind::Property)
+        || (kind == Kind::Directive && other == Kind::ExpressionStatement)
+}
+
+/// Whether a node of the kind is of the type.
+pub fn is_a(kind: Kind, of: NodeType) -> bool
+    ensures { result ≡ is_a kind of }
+{
+    match of {
+        NodeType::Kind(other) => kind == other || stands_for(kind, other),
+        NodeType::Group(group) => kind.belongs(group),
     }
 }

@@ -10,7 +10,7 @@ loop-path-preserved c =
     let e = c.in_ok-add_all.ensures.added ∙ ap (insert_all nat_eq c.loop-path.kept.items) c.deref.ensures.value in
     record {
       same = c.in_ok-add_all.ensures.same;
-      found = found_one F c.args.kind c.loop-path.kept.items c.add_all.new.kept.items c.loop-path.yielded (c.loop-path.yielded ++ c.in-Some.path ∷ []) c.in_ok-below.below.items c.in-Some.path
+      found = found_one F c.args.of c.loop-path.kept.items c.add_all.new.kept.items c.loop-path.yielded (c.loop-path.yielded ++ c.in-Some.path ∷ []) c.in_ok-below.below.items c.in-Some.path
           c.loop-path.invariant.found e c.in_ok-below.ensures.found refl;
       within = all_added (length F.places) c.loop-path.kept.items c.add_all.new.kept.items c.in_ok-below.below.items c.loop-path.invariant.within c.in_ok-below.ensures.within e;
     }

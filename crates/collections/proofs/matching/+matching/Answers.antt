@@ -1,7 +1,17 @@
-use Rattle.std.proofs.Common.{◌≡◌, arith, length, true, Some}
-use Rattle.collections.specs.Matches.{has_places}
-use Rattle.collections.proofs.Trying.{fields_end, items_end, items_none, told_long}
+use Rattle.std.proofs.Common.{◌≡◌, arith, length, map, true, Some}
+use Rattle.collections.specs.Reads.{seen}
+use Rattle.collections.specs.Matches.{field_tried, fields_told, has_places}
+use Rattle.collections.proofs.Trials.{fields_end, fields_next, items_end, items_none, told_long}
 use Rattle.collections.proofs.matching.+matching.Goals as goal
+
+pub try_fields-loop-field-preserved : goal.try_fields-loop-field-preserved
+try_fields-loop-field-preserved t c =
+    let sum = c.saturating_add-visits.ensures in
+    let next = fields_next c.args.arena.now c.args.node c.loop-field.field-index c.loop-field.visits c.saturating_add-visits.result c.try_value-trial.result.visits c.args.fields.now c.field-item.result
+    c.get.result.now (seen c.read_field-value.result) c.try_value-trial.result.fits (fields_told (map field_tried c.args.fields.now) c.args.arena.now c.args.node)
+    c.loop-field-test.true c.field-item.is c.get.ensures c.read_field-value.ensures.reads c.try_value-trial.ensures.fits c.try_value-trial.ensures.visits c.if-not-trial.false sum
+    c.loop-field.invariant.fits c.loop-field.invariant.visits in
+    record { fits = next.0; few = omega (arith, sum); visits = next.1 }
 
 pub try_fields-returns-clause-visits : goal.try_fields-returns-clause-visits
 try_fields-returns-clause-visits t c =

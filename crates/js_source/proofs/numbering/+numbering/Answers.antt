@@ -29,14 +29,14 @@ number_node-returns-clause-leaves t c =
     let end = c.number_slots.new.numbers.spans in
     let number = c.in_ok-number.number in
     let tree = c.args.tree.now in
-    node_spelled c.args.given.now.laid.source.now _ tree.kind tree.scalars (slots_of (map slot_view c.number_slots.new.slots)) c.in_ok-tree.field-0 c.args.numbers.now.spans end c.within-span.result number
+    node_spelled c.args.given.now.spanned.source.now _ tree.kind tree.scalars (slots_of (map slot_view c.number_slots.new.slots)) c.in_ok-tree.field-0 c.args.numbers.now.spans end c.within-span.result number
     (fold-roll-Tree Row Spot Syntax slot_step place_step tree_step (record { kind = tree.kind; scalars = tree.scalars; slots = c.number_slots.new.slots; notes = c.in_ok-tree.field-0; from = Some number }))
     c.in_ok-number.ensures.number
     (subst (λ z. Grows z end) c.in_ok-number.ensures.spans c.in_ok-number_slots.ensures.grows) (c.in_ok-is_spelled.ensures (search rules)) c.in_ok-number_slots.ensures.leaves
 
 pub number_slots-loop-turn-preserved : goal.number_slots-loop-turn-preserved
 number_slots-loop-turn-preserved t c =
-    let text = c.args.given.now.laid.source.now in
+    let text = c.args.given.now.spanned.source.now in
     let parent = c.args.parent in
     let start = c.args.numbers.now.spans in
     let before = c.loop-turn.numbers.spans in
@@ -67,7 +67,7 @@ number_slots-loop-turn-preserved t c =
 
 pub number_places-loop-turn-preserved : goal.number_places-loop-turn-preserved
 number_places-loop-turn-preserved t c =
-    let text = c.args.given.now.laid.source.now in
+    let text = c.args.given.now.spanned.source.now in
     let parent = c.args.parent in
     let first = c.args.first in
     let start = c.args.numbers.now.spans in

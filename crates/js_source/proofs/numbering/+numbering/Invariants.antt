@@ -34,7 +34,7 @@ invariant-number_slots-loop-turn l = record {
   places : l.numbers.places ≡ l.fn.numbers.places + slots_places (slots_of (map slot_view l.slots));
   low : slots_height (slots_of (map slot_view l.slots)) ≤ l.depth;
   shaped : SlotsInShape (slots_of (map slot_view l.slots));
-  leaves : SlotsSpelled l.given.laid.source.now l.numbers.spans (slots_of (map slot_view l.slots));
+  leaves : SlotsSpelled l.given.spanned.source.now l.numbers.spans (slots_of (map slot_view l.slots));
   len : l.numbers.len ≡ l.fn.numbers.len;
 }
 
@@ -48,6 +48,6 @@ invariant-number_places-loop-turn l = record {
   places : l.numbers.places ≡ l.fn.numbers.places + all_places (places_of (map place_view l.places));
   low : places_height (places_of (map place_view l.places)) ≤ l.depth;
   shaped : PlacesInShape (places_of (map place_view l.places));
-  leaves : PlacesSpelled l.given.laid.source.now l.numbers.spans (places_of (map place_view l.places));
+  leaves : PlacesSpelled l.given.spanned.source.now l.numbers.spans (places_of (map place_view l.places));
   len : l.numbers.len ≡ l.fn.numbers.len;
 }

@@ -1,4 +1,4 @@
-use Rattle.scope_lookup.proofs.Waits.{own_push}
+use Rattle.scope_lookup.proofs.WorkStack.{own_push}
 use Rattle.scope_lookup.proofs.walk.push_own.Goals as goal
 
 pub returns-clause-waits : goal.returns-clause-waits

@@ -1,0 +1,5 @@
+pub mod First
+pub mod Gaps
+pub mod Kids
+pub mod Told
+pub mod Turns

@@ -1,0 +1,9 @@
+//! Where the comments of a tree stand.
+#![tactic(auto)]
+
+mod children;
+mod seating;
+#[cfg(test)]
+mod tests;
+
+pub use seating::{Seat, Seats, seats};

@@ -1,5 +1,0 @@
-use Rattle.tree_forms.proofs.Turns.{in_turns_by}
-use Rattle.tree_forms.proofs.children.in_turns.Goals as goal
-
-pub returns : goal.returns
-returns c = rw (in_turns_by c.args.found.now c.character_count-count.result c.character_count-count.ensures.count) c.turns.ensures
