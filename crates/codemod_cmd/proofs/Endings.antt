@@ -8,13 +8,11 @@ use Rattle.command_words.specs.declared.invocation.Invocation.{Invocation}
 use Rattle.command_words.specs.declared.invocation.Request.{Request}
 use Rattle.command_words.specs.declared.invocation.Request.TheVariants.{Run, Sample}
 use Rattle.run_report.specs.Texts.{script_line}
-use Rattle.run_report.specs.declared.answer.FormKind.TheVariants.{Subset}
 use Rattle.run_report.specs.declared.answer.RowError.{RowError}
-use Rattle.run_report.specs.declared.answer.RowError.TheVariants.{Missing, ReadFault, ListFault, WriteFault, Unnamed, FolderDeep, TooLong, NotUtf8, Syntax, Script, BadNode, Form}
-use Rattle.codemod_cmd.specs.FileAnswer.{FileAnswer}
-use Rattle.codemod_cmd.specs.Script.{Change}
+use Rattle.run_report.specs.declared.answer.RowError.TheVariants.{Missing, ReadFault, ListFault, WriteFault, Unnamed, FolderDeep, TooLong, NotUtf8, Syntax, Script, Spent, NoText, BadNode, Form}
+use Rattle.codemod_cmd.specs.Script.{Codemod}
 use Rattle.codemod_cmd.specs.Rows.{HasNone, faults_in, Rises}
-use Rattle.codemod_cmd.specs.Session.{Outside, Stays, first_places, told, Completes, Halts, usage_line, IsNotRun, IsSample, RunsScript, Finishes, Stops}
+use Rattle.codemod_cmd.specs.Session.{Outside, Stays, first_places, told, Completes, Halts, usage_line, says_of, IsUnread, IsNotRun, IsSample, RunsScript, Finishes, Stops}
 use Rattle.codemod_cmd.specs.declared.status.Status.{Status}
 use Rattle.codemod_cmd.specs.declared.status.Status.TheVariants.{Usage, NoScript, Done}
 use Rattle.codemod_cmd.specs.declared.stop.Stop.{Stop}
@@ -30,7 +28,7 @@ sample_finishes request w v count line asks held is all = inl (line, (count, ask
 pub sample_stops : (request : Option Request) (w v : Outside) (count : ℕ) (line : List ℕ) → request ≡ Some (Sample count) → v.held ≡ w.held → IsSample count line → AppendsFront w.taken v.taken line → Stops request w v
 sample_stops request w v count line asks held is front = inr (inl (line, Done, (count, asks, held, is), front))
 
-pub unread : (held : Option Contents) (before now : ℕ) (script : List ℕ) (error : RowError) → HasNone held script error × Rises (faults_in error) before now → IsNotRun held before now script error
+pub unread : (held : Option Contents) (before now : ℕ) (script : List ℕ) (error : RowError) → HasNone held script error × Rises (faults_in error) before now → IsUnread held before now script error
 unread held before now script Missing h = h
 unread held before now script ReadFault h = h
 unread held before now script ListFault h = h
@@ -38,11 +36,13 @@ unread held before now script WriteFault h = h
 unread held before now script (Unnamed count) h = h
 unread held before now script FolderDeep h = h
 unread held before now script TooLong h = h
-unread held before now script (NotUtf8 at) h = h
+unread held before now script (NotUtf8 at) h = absurd h.0
 unread held before now script (Syntax at kind) h = h
 unread held before now script (Script at kind) h = h
+unread held before now script Spent h = h
+unread held before now script NoText h = h
 unread held before now script (BadNode address rule) h = h
-unread held before now script (Form at Subset) h = absurd h.0
+unread held before now script (Form at kind) h = h
 
 -- a script that is not run
 module _ (request : Option Request) (w v : Outside) (command : Invocation) (error : RowError) (asks : request ≡ Some (Run command))
@@ -56,31 +56,31 @@ module _ (request : Option Request) (w v : Outside) (command : Invocation) (erro
   refused_stops (Err stop) h = inr (inl (script_line command.script error, NoScript, (command, error, asks, reason, held, refl), h))
 
 -- a script that is run
-module _ (request : Option Request) (w x v : Outside) (command : Invocation) (change : Change) (runs : RunsScript request w command change) (stays : Stays w x) where
-  pub job_finishes : (r : Result Status Stop) → IfOk r (Completes (FileAnswer change) command x v) → IfOk r (Finishes request w v)
+module _ (request : Option Request) (w x v : Outside) (command : Invocation) (codemod : Codemod) (runs : RunsScript request w command codemod) (stays : Stays w x) where
+  pub job_finishes : (r : Result Status Stop) → IfOk r (Completes (says_of codemod command.fuel) command x v) → IfOk r (Finishes request w v)
   job_finishes (Ok status) h = inr (
     command,
-    change,
+    codemod,
     runs,
     (
       h.0,
-      runs_moved (FileAnswer change) command (first_places command) [] h.0 w x v stays h.1,
+      runs_moved (says_of codemod command.fuel) command (first_places command) [] h.0 w x v stays h.1,
       subst (λ b. Appends b v.taken (told command [] h.0)) stays.taken h.2,
       h.3,
     ),
   )
   job_finishes (Err stop) h = tt
 
-  pub job_stops : (r : Result Status Stop) → OnErr r (Halts (FileAnswer change) command x v) → OnErr r (Stops request w v)
+  pub job_stops : (r : Result Status Stop) → OnErr r (Halts (says_of codemod command.fuel) command x v) → OnErr r (Stops request w v)
   job_stops (Ok status) h = tt
   job_stops (Err stop) h = inr (inr (
     command,
-    change,
+    codemod,
     runs,
     (
       h.0,
       h.1,
-      runs_moved (FileAnswer change) command (first_places command) h.1 h.0 w x v stays h.2,
+      runs_moved (says_of codemod command.fuel) command (first_places command) h.1 h.0 w x v stays h.2,
       subst (λ b. AppendsFront b v.taken (told command h.1 h.0)) stays.taken h.3,
     ),
   ))

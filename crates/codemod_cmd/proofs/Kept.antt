@@ -1,6 +1,9 @@
 -- Runs that leave the store as it was, and scripts that are not run.
 use Rattle.std.proofs.Common.{◌≡◌, ℕ, Bool, true, List, [], ◌++◌, Some, None, inl, inr, length, refl, sym, ap, subst, ◌+◌, ◌∙◌, arith}
 use Rattle.std.specs.Prelude.{Option, if◌then◌else◌}
+use Rattle.std.specs.Str.{IsUtf8}
+use Rattle.std.proofs.lemmas.Bool.{false≢true}
+use Rattle.std.proofs.lemmas.Str.{is_utf8-from_IsUtf8}
 use Rattle.cm_store.specs.Contents.{Contents, replaced}
 use Rattle.command_words.specs.declared.invocation.Invocation.{Invocation}
 use Rattle.command_words.specs.declared.invocation.Request.{Request}
@@ -9,9 +12,8 @@ use Rattle.run_report.specs.declared.answer.RowAnswer.{RowAnswer}
 use Rattle.run_report.specs.declared.answer.RowAnswer.TheVariants.{Ok, Unmodified, Skipped, Error}
 use Rattle.codemod_cmd.specs.Rows.{Row, answered, refused, unwritten, IsRow, leaves, after}
 use Rattle.codemod_cmd.specs.Folders.{Place, places, inside, Goes, no_row, a_file, no_file, a_folder}
-use Rattle.codemod_cmd.specs.FileAnswer.{FileAnswer}
-use Rattle.codemod_cmd.specs.Script.{Change, IsScript}
-use Rattle.codemod_cmd.specs.Session.{Outside, Runs, WritesLine, Asks, LacksScript, Finishes, Stops, EndsBy, first_places}
+use Rattle.codemod_cmd.specs.Script.{Codemod}
+use Rattle.codemod_cmd.specs.Session.{Outside, Runs, WritesLine, Asks, says_of, LacksScript, Finishes, Stops, EndsBy, first_places}
 use Rattle.codemod_cmd.specs.declared.status.Status.{Status}
 use Rattle.codemod_cmd.specs.declared.status.Status.TheVariants.{Done, HadErrors, Usage, NoScript, NoMemory, OutputFault}
 use Rattle.codemod_cmd.proofs.Rowed.{after_unnamed}
@@ -53,25 +55,25 @@ module _ (request : Option Request) (w v : Outside) (command : Invocation) (asks
   finished_dry status (inl h) = line_kept request w v h.0 status h.1
   finished_dry status (inr h) =
       let same = same_command request command h.0 asks h.2.0 in
-      run_kept (FileAnswer h.1) h.0 (ap (λ (i : Invocation). i.dry) same ∙ dry) (first_places h.0) [] h.3.0 w v h.3.1
+      run_kept (says_of h.1 h.0.fuel) h.0 (ap (λ (i : Invocation). i.dry) same ∙ dry) (first_places h.0) [] h.3.0 w v h.3.1
 
   pub stopped_dry : Stops request w v → v.held ≡ w.held
   stopped_dry (inl h) = h.held
   stopped_dry (inr (inl h)) = line_kept request w v h.0 h.1 h.2
   stopped_dry (inr (inr h)) =
       let same = same_command request command h.0 asks h.2.0 in
-      run_kept (FileAnswer h.1) h.0 (ap (λ (i : Invocation). i.dry) same ∙ dry) (first_places h.0) h.3.1 h.3.0 w v h.3.2
+      run_kept (says_of h.1 h.0.fuel) h.0 (ap (λ (i : Invocation). i.dry) same ∙ dry) (first_places h.0) h.3.1 h.3.0 w v h.3.2
 
 -- a script that the store lacks is not run
-not_run : (held : Option Contents) (script : List ℕ) (change : Change) → Asks held script change → LacksScript held script → ⊥
-not_run None script change asks lacks = lacks
-not_run (Some c) script change asks (inl none) = absurd (cc (none, asks.1.0))
-not_run (Some c) script change asks (inr h) =
+not_run : (held : Option Contents) (script : List ℕ) (codemod : Codemod) → Asks held script codemod → LacksScript held script → ⊥
+not_run None script codemod asks lacks = lacks
+not_run (Some c) script codemod asks (inl none) = absurd (cc (none, asks.1.0))
+not_run (Some c) script codemod asks (inr h) =
     let both : ◌≡◌ {A = Option (List ℕ)} (Some asks.0) (Some h.0) = sym asks.1.0 ∙ h.1 in
     let same : asks.0 ≡ h.0 = cc in
     elim h.2 [
       | inl long ↦ absurd (omega (arith, long, asks.1.1, ap length same))
-      | inr none ↦ none change (subst (IsScript change) same asks.2)
+      | inr other ↦ absurd (false≢true (sym other ∙ is_utf8-from_IsUtf8 h.0 (subst IsUtf8 same asks.2.utf8)))
     ]
 
 pub no_script : (request : Option Request) (w v : Outside) (status : Status) (command : Invocation) → request ≡ Some (Run command) → LacksScript w.held command.script → Finishes request w v status → EndsBy NoScript status

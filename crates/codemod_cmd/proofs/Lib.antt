@@ -5,7 +5,8 @@ pub mod Fronts
 pub mod Going
 pub mod Kept
 pub mod Rowed
-pub mod Scripts
+pub mod ScriptTexts
 pub mod Written
 pub mod Plain
 pub mod Refusals
+pub mod Told

@@ -1,5 +1,7 @@
 -- The rows of sources: of those that have no tree, and of new texts.
-use Rattle.std.proofs.Common.{◌≡◌, ℕ, ◌<◌, ◌≤◌, Bool, true, false, List, length, inr, arith, sym, subst}
+use Rattle.std.proofs.Common.{◌≡◌, ℕ, ◌<◌, ◌≤◌, Bool, true, false, List, length, inr, arith, refl, sym, subst}
+use Rattle.std.proofs.lemmas.Bool.{ltb-false}
+use Rattle.std.proofs.lemmas.Str.{IsUtf8-from_is_utf8}
 use Rattle.std.specs.Prelude.{if◌then◌else◌, nat_lt}
 use Rattle.std.specs.Prelude.{Ok as Good, Err as Bad}
 use Rattle.std.specs.Str.{is_utf8}
@@ -39,6 +41,16 @@ source_of_bytes bytes s = go (nat_lt MAX_LENGTH (length bytes)) (is_utf8 bytes)
     go true text e = (cc)
     go false true e = (cc)
     go false false e = (cc)
+
+-- and it is short and UTF-8
+pub source_is : (bytes s : List ℕ) → source_of bytes ≡ Good s → IsSource s
+source_is bytes s e = subst IsSource (sym (source_of_bytes bytes s e)) (made (nat_lt MAX_LENGTH (length bytes)) (is_utf8 bytes) refl refl e)
+  where
+    made : (long text : Bool) → nat_lt MAX_LENGTH (length bytes) ≡ long → is_utf8 bytes ≡ text
+        → (if long then Bad (TooLong (length bytes)) else (if text then Good bytes else Bad (NotUtf8 (utf8_valid_len bytes)))) ≡ Good s → IsSource bytes
+    made true text l u e = absurd (cc)
+    made false true l u e = record { short = ltb-false MAX_LENGTH (length bytes) l; utf8 = IsUtf8-from_is_utf8 bytes u }
+    made false false l u e = absurd (cc)
 
 -- what is a tree of the bytes of a source is one of the source, and the other way round
 pub tree_of_source : (bytes s : List ℕ) (spans : List Span) (t : Tree) → bytes ≡ s → IsTreeOf bytes spans t → IsTreeOf s spans t

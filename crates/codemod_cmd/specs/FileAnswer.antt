@@ -26,7 +26,7 @@ use Rattle.source_rename.specs.Edits.{patched}
 use Rattle.source_rename.specs.Whole.{all_edits}
 use Rattle.source_rename.specs.Methods.{bad_method}
 use Rattle.run_report.specs.declared.answer.TreeRule.TheVariants.{Method}
-use Rattle.run_report.specs.declared.answer.FaultKind.TheVariants.{ListLong}
+use Rattle.script_values.specs.declared.fault.Fault.TheVariants.{ListLong}
 use Rattle.run_report.specs.declared.answer.RowError.{RowError}
 use Rattle.run_report.specs.declared.answer.RowError.TheVariants.{TooLong, NotUtf8, Syntax, Script, BadNode}
 use Rattle.codemod_cmd.specs.Script.{Change, prints, renames}

@@ -4,6 +4,7 @@ pub mod FileRows
 pub mod Folders
 pub mod Readings
 pub mod Rows
+pub mod RunAnswer
 pub mod Script
 pub mod Session
 pub mod Sights

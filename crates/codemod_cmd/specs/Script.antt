@@ -44,6 +44,16 @@ abbrev pub IsScript : Change → List ℕ → Type 0
 IsScript prints bytes = IsPrinting bytes
 IsScript (renames old new) bytes = IsRenaming old new bytes
 
--- the bytes are no script that is understood
+-- the bytes are a script of neither form
 abbrev pub IsNoScript : List ℕ → Type 0
 IsNoScript bytes = (change : Change) → IsScript change bytes → ⊥
+
+-- what a run does: one of the two forms, or any other script, with its bytes
+pub data Codemod : Type 0 where
+  special : Change → Codemod
+  general : List ℕ → Codemod
+
+-- the bytes are the script of this codemod
+abbrev pub IsOf : Codemod → List ℕ → Type 0
+IsOf (special change) bytes = IsScript change bytes
+IsOf (general script) bytes = (script ≡ bytes) × IsNoScript bytes

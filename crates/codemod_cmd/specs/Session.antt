@@ -1,5 +1,6 @@
 -- What a run reads, writes and leaves.
-use Rattle.std.specs.Prelude.{◌≡◌, ◌⊎◌, ℕ, ◌<◌, ◌≤◌, Bool, if◌then◌else◌, ◌&&◌, List, [], ◌∷◌, ◌++◌, map, length, Option, Some, None, Result, Ok, Err, codes, string_bytes}
+use Rattle.std.specs.Prelude.{◌≡◌, ◌⊎◌, ℕ, ◌<◌, ◌≤◌, Bool, false, if◌then◌else◌, ◌&&◌, List, [], ◌∷◌, ◌++◌, map, length, Option, Some, None, Result, Ok, Err, codes, string_bytes}
+use Rattle.std.specs.Str.{is_utf8}
 use Rattle.std.specs.FinMap.{get}
 use Rattle.std.specs.Io.KnownBytes.{Appends}
 use Rattle.std.specs.declared.string.String.{String}
@@ -15,14 +16,17 @@ use Rattle.run_report.specs.Texts.{script_line, summary_lines, sample_lines}
 use Rattle.run_report.specs.Counting.{no_counts, counted}
 use Rattle.run_report.specs.declared.counts.Counts.{Counts}
 use Rattle.run_report.specs.declared.answer.RowAnswer.{RowAnswer}
-use Rattle.run_report.specs.declared.answer.FormKind.TheVariants.{Subset}
 use Rattle.run_report.specs.declared.answer.RowError.{RowError}
-use Rattle.run_report.specs.declared.answer.RowError.TheVariants.{Form}
+use Rattle.run_report.specs.declared.answer.RowError.TheVariants.{NotUtf8, Syntax, Form}
 use Rattle.codemod_cmd.specs.Rows.{Row, answer_of, HasBytes, HasNone, IsRow, leaves, after, faults_in, row_faults, faults_of, Rises, shown, shown_all, counted_all, has_error}
 use Rattle.codemod_cmd.specs.Folders.{Place, places, named, Goes}
 use Rattle.sample_gen.specs.Sample.{sample}
-use Rattle.codemod_cmd.specs.Script.{Change, renames, IsScript, IsNoScript}
-use Rattle.codemod_cmd.specs.FileAnswer.{FileAnswer}
+use Rattle.tree_core.specs.declared.span.Parsed.{Parsed}
+use Rattle.codemod_cmd.specs.Script.{Codemod, special, general, renames, IsNoScript, IsOf}
+use Rattle.codemod_cmd.specs.FileAnswer.{FileAnswer, IsSource, IsParsed, FirstBad}
+use Rattle.codemod_cmd.specs.RunAnswer.{RunAnswer}
+use Rattle.codemod_cmd.specs.declared.reading.Unread.{Unread}
+use Rattle.codemod_cmd.specs.declared.reading.Unread.TheVariants.{Refused, NoMemory as NotRead}
 use Rattle.codemod_cmd.specs.declared.status.Status.{Status}
 use Rattle.codemod_cmd.specs.declared.status.Status.TheVariants.{Done, HadErrors, Usage, NoScript, NoMemory, OutputFault}
 use Rattle.codemod_cmd.specs.declared.stop.Stop.{Stop}
@@ -110,14 +114,42 @@ unfoldable pub usage_line : List ℕ
 usage_line = codes
     "usage: codemod -t SCRIPT [-d] [-p] [--fuel N] [--extensions LIST] [--fail-on-error] [--tab-width N] [--use-tabs] [--quote Q] [--trailing-comma] [--no-curly-spacing] [--arrow-parens] FILE...\n"
 
--- the script of this name does this
-abbrev pub Asks : Option Contents → List ℕ → Change → Type 0
-Asks held script change = (bytes : List ℕ) × HasBytes held script bytes × IsScript change bytes
+-- the script of this name is this one
+abbrev pub Asks : Option Contents → List ℕ → Codemod → Type 0
+Asks held script codemod = (bytes : List ℕ) × HasBytes held script bytes × IsSource bytes × IsOf codemod bytes
 
--- the script of this name is not run, for this reason. A failed read is one that the store counted
+-- what a run of the codemod, with so much fuel for a file, says of the bytes of a file
+abbrev pub says_of : Codemod → ℕ → List ℕ → RowAnswer → List ℕ → Type 0
+says_of (special change) fuel = FileAnswer change
+says_of (general script) fuel = RunAnswer fuel
+
+-- the script of this name cannot be read, for this reason. A failed read is one that the store counted
+abbrev pub IsUnread : Option Contents → ℕ → ℕ → List ℕ → RowError → Type 0
+IsUnread held before now script (NotUtf8 at) = (bytes : List ℕ) × HasBytes held script bytes × FirstBad bytes at
+IsUnread held before now script error = HasNone held script error × Rises (faults_in error) before now
+
+-- the source is no script: it has no tree, or breaks a rule of scripts
+abbrev pub IsRefused : List ℕ → RowError → Type 0
+IsRefused s (Syntax at kind) = at ≤ length s
+IsRefused s (Form at kind) = (p : Parsed) × IsParsed s p
+IsRefused s _ = ⊥
+
+-- what comes of reading the script of this name as a source
+abbrev pub Sourced : Option Contents → ℕ → ℕ → List ℕ → Result (List ℕ) Unread → Type 0
+Sourced held before now script (Ok source) = HasBytes held script source × IsSource source
+Sourced held before now script (Err (Refused error)) = IsUnread held before now script error
+Sourced held before now script (Err NotRead) = Unit {0}
+
+-- where a source is refused as a script, it is none
+abbrev pub RefusedScript : {A : Type 0} → List ℕ → Result A Unread → Type 0
+RefusedScript s (Err (Refused error)) = IsRefused s error
+RefusedScript s (Err NotRead) = Unit {0}
+RefusedScript s (Ok codemod) = Unit {0}
+
+-- the script of this name is not run, for this reason
 abbrev pub IsNotRun : Option Contents → ℕ → ℕ → List ℕ → RowError → Type 0
-IsNotRun held before now script (Form at Subset) = (bytes : List ℕ) × HasBytes held script bytes × IsNoScript bytes × (at ≡ 0)
-IsNotRun held before now script error = HasNone held script error × Rises (faults_in error) before now
+IsNotRun held before now script error =
+    IsUnread held before now script error ⊎ ((bytes : List ℕ) × HasBytes held script bytes × IsSource bytes × IsNoScript bytes × IsRefused bytes error)
 
 -- what is written of a sample: the lengths of its source and of the text that a renaming makes of it
 abbrev pub IsSample : ℕ → List ℕ → Type 0
@@ -133,21 +165,21 @@ WritesLine request w v line Done = (count : ℕ) × (request ≡ Some (Sample co
 WritesLine request w v line _ = ⊥
 
 -- a run of this script is asked for
-abbrev pub RunsScript : Option Request → Outside → Invocation → Change → Type 0
-RunsScript request w command change = (request ≡ Some (Run command)) × Asks w.held command.script change
+abbrev pub RunsScript : Option Request → Outside → Invocation → Codemod → Type 0
+RunsScript request w command codemod = (request ≡ Some (Run command)) × Asks w.held command.script codemod
 
 -- a run that wrote all of its text
 abbrev pub Finishes : Option Request → Outside → Outside → Status → Type 0
 Finishes request w v status =
     ((line : List ℕ) × WritesLine request w v line status × Appends w.taken v.taken line)
-    ⊎ ((command : Invocation) × (change : Change) × RunsScript request w command change × Completes (FileAnswer change) command w v status)
+    ⊎ ((command : Invocation) × (codemod : Codemod) × RunsScript request w command codemod × Completes (says_of codemod command.fuel) command w v status)
 
 -- a run that stopped before: it did nothing, or wrote a front of its line, or the rows of some names and a front of what is written of them
 abbrev pub Stops : Option Request → Outside → Outside → Type 0
 Stops request w v =
     Stays w v
     ⊎ ((line : List ℕ) × (status : Status) × WritesLine request w v line status × AppendsFront w.taken v.taken line)
-    ⊎ ((command : Invocation) × (change : Change) × RunsScript request w command change × Halts (FileAnswer change) command w v)
+    ⊎ ((command : Invocation) × (codemod : Codemod) × RunsScript request w command codemod × Halts (says_of codemod command.fuel) command w v)
 
 -- how a run ends
 abbrev pub Ends : Option Request → Outside → Outside → Status → Type 0
@@ -159,8 +191,8 @@ Ends request w v status = Finishes request w v status
 abbrev pub EndsBy : Status → Status → Type 0
 EndsBy status result = (result ≡ status) ⊎ (result ≡ NoMemory) ⊎ (result ≡ OutputFault)
 
--- the store tells that the script of this name cannot be run: there is none, it is too long, or not of the form
+-- the store tells that the script of this name cannot be run: there is none, it is too long, or no UTF-8
 abbrev pub LacksScript : Option Contents → List ℕ → Type 0
 LacksScript None script = ⊥
 LacksScript (Some c) script =
-    (get c.files script ≡ None) ⊎ ((bytes : List ℕ) × (get c.files script ≡ Some bytes) × ((MAX_LENGTH < length bytes) ⊎ IsNoScript bytes))
+    (get c.files script ≡ None) ⊎ ((bytes : List ℕ) × (get c.files script ≡ Some bytes) × ((MAX_LENGTH < length bytes) ⊎ (is_utf8 bytes ≡ false)))

@@ -41,14 +41,14 @@ fn read_first(alloc: Global, source: &[u8]) -> Result<Reading, AllocError>
 }
 
 // What comes of a source that has no tree.
-fn refused(alloc: Global, at: u32, kind: SyntaxKind) -> Outcome
+pub(crate) fn refused(alloc: Global, at: u32, kind: SyntaxKind) -> Outcome
     ensures { result.answer ≡ RowAnswer.Error (RowError.Syntax at kind) }
 {
     Outcome::error(alloc, RowError::Syntax { at, kind })
 }
 
 // What comes of a source that is printed as it is.
-fn printed(source: Source) -> Outcome
+pub(crate) fn printed(source: Source) -> Outcome
     ensures answer { result.answer ≡ RowAnswer.Unmodified }
     ensures text { result.text.items ≡ source }
 {
@@ -115,7 +115,7 @@ fn of_source(alloc: Global, source: Source, change: &Transform) -> Result<Outcom
 impl<'a> Engine for Transform<'a> {
     ghost says = { λ transform. FileAnswer (change_of transform) };
 
-    fn answer(&self, alloc: Global, bytes: Vec<u8>) -> Result<Outcome, AllocError> {
+    fn answer(&self, alloc: Global, _name: &str, bytes: Vec<u8>) -> Result<Outcome, AllocError> {
         match Source::new(bytes) {
             Ok(source) => of_source(alloc, source, self),
             Err(TextFault::TooLong { .. }) => Ok(Outcome::error(alloc, RowError::TooLong)),

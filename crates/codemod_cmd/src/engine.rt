@@ -30,7 +30,7 @@ pub trait Engine {
     /// Of these bytes it may say this, with this text.
     ghost says: { Self → List ℕ → RowAnswer → List ℕ → Type 0 };
 
-    /// Runs the script over the bytes of a file.
-    fn answer(&self, alloc: Global, bytes: Vec<u8>) -> Result<Outcome, AllocError>
+    /// Runs the script over the bytes of the file of this name.
+    fn answer(&self, alloc: Global, name: &str, bytes: Vec<u8>) -> Result<Outcome, AllocError>
         ensures { IfOk result (λ o. says self.now bytes.items o.answer o.text.items) };
 }

@@ -73,7 +73,7 @@ fn row_of_file<E: Engine, S: Store>(
     ensures rises { IfOk result (λ row. Rises (row_faults (row_of row)) (S.fault_count store.old) (S.fault_count store.new)) }
 {
     match load(alloc, store, name) {
-        Ok(bytes) => Ok(FileRow::Answered(job.engine.answer(alloc, bytes)?)),
+        Ok(bytes) => Ok(FileRow::Answered(job.engine.answer(alloc, name, bytes)?)),
         Err(Unread::Refused(error)) => Ok(FileRow::Refused(error)),
         Err(Unread::NoMemory) => Err(AllocError),
     }

@@ -5,6 +5,7 @@
 #![tactic(auto)]
 
 mod answering;
+mod codemod;
 mod engine;
 mod file_row;
 mod folder;
@@ -15,6 +16,7 @@ mod renaming;
 mod running;
 mod sampling;
 mod script;
+mod scripts;
 mod session;
 mod sight;
 mod status;

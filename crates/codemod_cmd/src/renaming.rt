@@ -9,7 +9,8 @@ ghost use Rattle.codemod_cmd.specs.Readings.{IsTold};
 use crate::engine::Outcome;
 use crate::script::Renaming;
 use cm_text::Source;
-use run_report::{FaultKind, RowAnswer, RowError, TreeRule};
+use run_report::{RowAnswer, RowError, TreeRule};
+use script_values::Fault;
 use source_rename::RenameError;
 use std::alloc::{AllocError, Global};
 use tree_core::Parsed;
@@ -22,10 +23,10 @@ const FIND_AT: u32 = 32;
 
 // The script's list of identifiers would have more items than it may.
 fn list_long(alloc: Global) -> Outcome
-    ensures { result.answer ≡ RowAnswer.Error (RowError.Script 32 FaultKind.ListLong) }
+    ensures { result.answer ≡ RowAnswer.Error (RowError.Script 32 Fault.ListLong) }
 {
     let at = FIND_AT;
-    let kind = FaultKind::ListLong;
+    let kind = Fault::ListLong;
     Outcome::error(alloc, RowError::Script { at, kind })
 }
 

@@ -9,8 +9,9 @@ ghost use Rattle.run_report.specs.Texts.{script_line};
 ghost use Rattle.codemod_cmd.specs.Session.{outside, asked, usage_line, Finishes, Stops, Ends, EndsBy, LacksScript};
 
 use crate::job::Job;
-use crate::reading::{Unread, load};
+use crate::reading::Unread;
 use crate::sampling::sample_lines;
+use crate::scripts::{prepared, read_script};
 use crate::session::run_job;
 use crate::status::Status;
 use crate::stop::Stop;
@@ -18,7 +19,7 @@ use crate::transform::Transform;
 use crate::writing::say;
 use cm_store::{Sink, Store};
 use command_words::{Invocation, Request, USAGE, read_words};
-use run_report::{FormKind, RowError, script_text};
+use run_report::{RowError, script_text};
 use std::alloc::Global;
 
 #[tactic(auto, unfolding(crate::specs::Session::usage_line))]
@@ -61,20 +62,22 @@ fn run_command<S: Store, O: Sink>(
         (outside (S.contents store.new) (S.fault_count store.new) (O.taken_bytes out.new))) }
     ensures fault { IsErrOf result Stop.OutputFault → Rose (O.fault_count out.old) (O.fault_count out.new) }
 {
-    let script = match load(alloc, store, command.script.get()) {
-        Ok(script) => script,
-        Err(Unread::Refused(error)) => {
-            return refuse_script(alloc, out, command.script.get(), &error);
-        }
+    let name = command.script.get();
+    let source = match read_script(alloc, store, name) {
+        Ok(source) => source,
+        Err(Unread::Refused(error)) => return refuse_script(alloc, out, name, &error),
         Err(Unread::NoMemory) => return Err(Stop::NoMemory),
     };
-    let Some(engine) = Transform::from_script(&script) else {
-        let at = 0;
-        let kind = FormKind::Subset;
-        let error = RowError::Form { at, kind };
-        return refuse_script(alloc, out, command.script.get(), &error);
+    if let Some(engine) = Transform::from_script(source.bytes()) {
+        let engine = &engine;
+        return run_job(alloc, &Job { engine, command }, store, out);
+    }
+    let codemod = match prepared(alloc, &source, command.fuel) {
+        Ok(codemod) => codemod,
+        Err(Unread::Refused(error)) => return refuse_script(alloc, out, name, &error),
+        Err(Unread::NoMemory) => return Err(Stop::NoMemory),
     };
-    let engine = &engine;
+    let engine = &codemod;
     run_job(alloc, &Job { engine, command }, store, out)
 }
 

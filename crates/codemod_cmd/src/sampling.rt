@@ -21,6 +21,6 @@ pub fn sample_lines(alloc: Global, count: u32) -> Result<Vec<u8>, AllocError>
     let source = sample(alloc, count)?;
     let read = source.len();
     let transform = Transform::Rename(Renaming { old: OLD, new: NEW });
-    let outcome = transform.answer(alloc, source)?;
+    let outcome = transform.answer(alloc, "", source)?;
     sample_text(alloc, count, read, &outcome.answer, &outcome.text)
 }

@@ -6,14 +6,12 @@ use Rattle.js_lexer.specs.declared.fault.LexFaultKind.{LexFaultKind}
 use Rattle.js_lexer.specs.declared.fault.LexFaultKind.TheVariants as lex
 use Rattle.js_lexer.specs.declared.fault.SyntaxKind.{SyntaxKind}
 use Rattle.js_lexer.specs.declared.fault.SyntaxKind.TheVariants as syntax
-use Rattle.run_report.specs.declared.answer.FaultKind.{FaultKind}
-use Rattle.run_report.specs.declared.answer.FaultKind.TheVariants as fault
-use Rattle.run_report.specs.declared.answer.FormKind.{FormKind}
-use Rattle.run_report.specs.declared.answer.FormKind.TheVariants as form
+use Rattle.script_check.specs.Names.{form_name}
+use Rattle.script_values.specs.Faults.{fault_name}
 use Rattle.run_report.specs.declared.answer.TreeRule.{TreeRule}
 use Rattle.run_report.specs.declared.answer.TreeRule.TheVariants as rule
 use Rattle.run_report.specs.declared.answer.RowError.{RowError}
-use Rattle.run_report.specs.declared.answer.RowError.TheVariants.{Missing, ReadFault, ListFault, WriteFault, Unnamed, FolderDeep, TooLong, NotUtf8, Syntax, Script, BadNode, Form}
+use Rattle.run_report.specs.declared.answer.RowError.TheVariants.{Missing, ReadFault, ListFault, WriteFault, Unnamed, FolderDeep, TooLong, NotUtf8, Syntax, Script, Spent, NoText, BadNode, Form}
 
 unfoldable pub lex_name : LexFaultKind → List ℕ
 lex_name lex.OpenString = codes "OpenString"
@@ -28,12 +26,6 @@ unfoldable pub syntax_name : SyntaxKind → List ℕ
 syntax_name (syntax.Lex kind) = lex_name kind
 syntax_name syntax.Unexpected = codes "Unexpected"
 syntax_name syntax.Nesting = codes "Nesting"
-
-unfoldable pub fault_name : FaultKind → List ℕ
-fault_name fault.ListLong = codes "ListLong"
-
-unfoldable pub form_name : FormKind → List ℕ
-form_name form.Subset = codes "Subset"
 
 unfoldable pub rule_name : TreeRule → List ℕ
 rule_name rule.Method = codes "Method"
@@ -66,5 +58,7 @@ error_text TooLong = codes "longer than 2097152 bytes"
 error_text (NotUtf8 at) = placed (codes "not ") (codes "UTF-8") at
 error_text (Syntax at kind) = placed (codes "syntax ") (syntax_name kind) at
 error_text (Script at kind) = placed (codes "script ") (fault_name kind) at
+error_text Spent = codes "fuel spent"
+error_text NoText = codes "no text yet"
 error_text (BadNode address rule) = broken address rule
 error_text (Form at kind) = placed (codes "form ") (form_name kind) at

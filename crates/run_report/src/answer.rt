@@ -1,21 +1,9 @@
 //! What a run says of one name.
 
 use js_lexer::SyntaxKind;
+use script_check::FormKind;
+use script_values::Fault;
 use tree_core::Address;
-
-/// Why a script stops.
-#[derive(Clone, Copy, Debug, PartialEq, Eq)]
-pub enum FaultKind {
-    /// A list has more than 1,000,000 items.
-    ListLong,
-}
-
-/// Why a script is not run.
-#[derive(Clone, Copy, Debug, PartialEq, Eq)]
-pub enum FormKind {
-    /// It is no script of those that are understood.
-    Subset,
-}
 
 /// Why a tree has no text.
 #[derive(Clone, Copy, Debug, PartialEq, Eq)]
@@ -47,10 +35,14 @@ pub enum RowError {
     /// The source is no program, or nests too deep: at this offset, for this reason.
     Syntax { at: u32, kind: SyntaxKind },
     /// The script stopped at this offset of its own.
-    Script { at: u32, kind: FaultKind },
+    Script { at: u32, kind: Fault },
+    /// The script used its fuel up.
+    Spent,
+    /// The script changed the tree, and a changed tree has no text yet.
+    NoText,
     /// The tree that the script made breaks the rule at the node of this address.
     BadNode { address: Address, rule: TreeRule },
-    /// The script is not of the right form at this offset. Of scripts alone.
+    /// The program breaks a rule of scripts at this offset. Of scripts alone.
     Form { at: u32, kind: FormKind },
 }
 

@@ -5,7 +5,7 @@ ghost use Rattle.std.specs.Fmt.{decimal};
 ghost use Rattle.std.specs.List.{flat_map};
 ghost use Rattle.run_report.specs.Errors as spec;
 
-use crate::answer::{FaultKind, FormKind, RowError, TreeRule};
+use crate::answer::{RowError, TreeRule};
 use js_lexer::{LexFaultKind, SyntaxKind};
 use std::alloc::{AllocError, Global};
 use tree_core::Address;
@@ -33,24 +33,6 @@ fn syntax_name(kind: SyntaxKind) -> &'static str
         SyntaxKind::Lex(kind) => lex_name(kind),
         SyntaxKind::Unexpected => "Unexpected",
         SyntaxKind::Nesting => "Nesting",
-    }
-}
-
-#[tactic(auto, unfolding(crate::specs::Errors::fault_name))]
-fn fault_name(kind: FaultKind) -> &'static str
-    ensures { result.now ≡ spec.fault_name kind }
-{
-    match kind {
-        FaultKind::ListLong => "ListLong",
-    }
-}
-
-#[tactic(auto, unfolding(crate::specs::Errors::form_name))]
-fn form_name(kind: FormKind) -> &'static str
-    ensures { result.now ≡ spec.form_name kind }
-{
-    match kind {
-        FormKind::Subset => "Subset",
     }
 }
 
@@ -154,8 +136,10 @@ pub(crate) fn error_text(alloc: Global, error: &RowError) -> Result<Vec<u8>, All
         RowError::TooLong => plain(alloc, "longer than 2097152 bytes"),
         RowError::NotUtf8 { at } => placed(alloc, "not ", "UTF-8", *at),
         RowError::Syntax { at, kind } => placed(alloc, "syntax ", syntax_name(*kind), *at),
-        RowError::Script { at, kind } => placed(alloc, "script ", fault_name(*kind), *at),
+        RowError::Script { at, kind } => placed(alloc, "script ", kind.name(), *at),
+        RowError::Spent => plain(alloc, "fuel spent"),
+        RowError::NoText => plain(alloc, "no text yet"),
         RowError::BadNode { address, rule } => broken(alloc, address, *rule),
-        RowError::Form { at, kind } => placed(alloc, "form ", form_name(*kind), *at),
+        RowError::Form { at, kind } => placed(alloc, "form ", kind.name(), *at),
     }
 }

@@ -1,6 +1,7 @@
 //! Why a run of a script stops before its end.
 
 ghost use Rattle.std.specs.Prelude.{◌≡◌};
+ghost use Rattle.script_values.specs.Faults.{fault_name};
 
 use std::alloc::{AllocError, AllocFailed};
 
@@ -42,7 +43,10 @@ pub enum Fault {
 
 impl Fault {
     /// The fault's name, as a row of a report has it.
-    pub fn name(self) -> &'static str {
+    #[tactic(auto, unfolding(crate::specs::Faults::fault_name))]
+    pub fn name(self) -> &'static str
+        ensures { result.now ≡ fault_name self }
+    {
         match self {
             Fault::NotCallable => "NotCallable",
             Fault::NoField => "NoField",

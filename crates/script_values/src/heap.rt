@@ -1,5 +1,7 @@
 //! The heap of a run.
 
+ghost use Rattle.std.specs.Prelude.{◌≡◌};
+
 use crate::budget::{Budget, add};
 use crate::environments::Environments;
 use crate::fault::{Stop, nothing_named};
@@ -429,6 +431,13 @@ impl Heap {
     }
 
     // Environments.
+
+    /// What stands around the outermost environment. It has no names.
+    pub fn outermost(&self) -> EnvironmentId
+        ensures { result ≡ 0 }
+    {
+        EnvironmentId::numbered(0)
+    }
 
     /// A new environment inside another, with so many names whose declarations have not run.
     pub fn environment(

@@ -3,7 +3,7 @@ use Rattle.std.specs.List.{prefix_len}
 use Rattle.std.proofs.lemmas.List.{length-take}
 use Rattle.std.proofs.lemmas.List.Sums.{prefix_len-le-length}
 use Rattle.first_grammar.specs.Words.{is_part}
-use Rattle.codemod_cmd.proofs.Scripts.{take-length-take}
+use Rattle.codemod_cmd.proofs.ScriptTexts.{take-length-take}
 use Rattle.codemod_cmd.proofs.script.split_name.Goals as goal
 
 pub returns-clause-name : goal.returns-clause-name

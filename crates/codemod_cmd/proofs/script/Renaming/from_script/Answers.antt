@@ -2,7 +2,7 @@ use Rattle.std.proofs.Common.{subst, sym, ◌∙◌}
 use Rattle.std.proofs.lemmas.List.{append_cancel_left}
 use Rattle.first_rename.specs.Names.{IsPlainName}
 use Rattle.codemod_cmd.specs.Script.{front, middle, back, IsEnd}
-use Rattle.codemod_cmd.proofs.Scripts.{from_front, from_old, from_new, joined}
+use Rattle.codemod_cmd.proofs.ScriptTexts.{from_front, from_old, from_new, joined}
 use Rattle.codemod_cmd.proofs.script.Renaming.from_script.Goals as goal
 
 pub returns-in_err-after : goal.returns-in_err-after
