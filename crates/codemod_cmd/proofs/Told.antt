@@ -1,6 +1,5 @@
 -- The rows of runs of scripts other than the two forms.
-use Rattle.std.proofs.Common.{◌≡◌, ℕ, zero, suc, ◌<◌, ◌≤◌, List, refl, arith}
-use Rattle.run_report.specs.declared.answer.RowAnswer.{RowAnswer}
+use Rattle.std.proofs.Common.{◌≡◌, ℕ, zero, suc, ◌<◌, List, refl, arith}
 use Rattle.run_report.specs.declared.answer.RowAnswer.TheVariants.{Unmodified, Error}
 use Rattle.run_report.specs.declared.answer.RowError.TheVariants.{NoText}
 use Rattle.script_eval.specs.declared.running.Outcome.{Outcome}

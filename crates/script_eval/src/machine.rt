@@ -19,8 +19,8 @@ pub const MAX_NESTING: u32 = 100_000;
 
 /// A run of a script. `base` is where the slots of the running call begin, `room` how many
 /// evaluations more may be nested inside it, and `call_at` the offset of the call. `callers` are
-/// those of the calls that run, and `at` is the offset of the innermost expression where a fault may
-/// come.
+/// those of the calls that run, and `at` is the offset of the innermost expression where a fault
+/// may come.
 #[derive(Drop)]
 pub struct Machine<'a> {
     pub code: &'a Code,
@@ -250,8 +250,8 @@ impl<'a> Machine<'a> {
         }
     }
 
-    /// Turns until no frame waits, from the start of a call of the function, or of the top level where
-    /// the value is none: the value that was given last, or undefined behind a statement.
+    /// Turns until no frame waits, from the start of a call of the function, or of the top level
+    /// where the value is none: the value that was given last, or undefined behind a statement.
     pub fn turns(&mut self, host: &mut Host, called: Value) -> Result<Value, Stop>
         ensures { self.new.fuel ≤ self.old.fuel }
     {

@@ -1,6 +1,6 @@
 //! Runs over files in memory.
 
-use crate::tables::{LIMITS, RENAMED, ROWS, RUNS, SCRIPT, SOURCE};
+use crate::tables::{LIMITS, RENAMED, ROWS, RUNS, SCRIPT, SCRIPT_RUNS, SOURCE};
 use cm_store::{
     Calls, Files, MemorySink, MemoryStore, Store, StoredFile, UnnamedCount, UnnamedList,
 };
@@ -159,6 +159,23 @@ fn runs(rt: HostRuntime) -> Result<(), Fail> {
             wanted,
         };
         assert!(rt; comes_out(alloc, &run, None)?, "for {words}");
+    }
+    Ok(())
+}
+
+#[test]
+fn script_runs(rt: HostRuntime) -> Result<(), Fail> {
+    let alloc = rt.alloc();
+    for (words, script, ends, wanted) in SCRIPT_RUNS.iter() {
+        let run = Run {
+            words,
+            script: Some(script),
+            names: &["a.js", "c.js"],
+            source: SOURCE,
+            ends: *ends,
+            wanted,
+        };
+        assert!(rt; comes_out(alloc, &run, None)?, "for {wanted}");
     }
     Ok(())
 }

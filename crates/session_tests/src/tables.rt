@@ -168,7 +168,7 @@ pub const ROWS: [(&str, &[u8], &str); 45] = [
 ];
 
 // Words, a script, the files, the status and what is written.
-pub const RUNS: [(&str, Option<&str>, &[&str], Status, &str); 25] = [
+pub const RUNS: [(&str, Option<&str>, &[&str], Status, &str); 14] = [
     (
         "-t s.js a.js",
         Some(SCRIPT),
@@ -256,80 +256,73 @@ pub const RUNS: [(&str, Option<&str>, &[&str], Status, &str); 25] = [
         Status::Done,
         "sample 3\nread 132\nwritten 132\n",
     ),
+];
+
+// Words, a script of neither form, the status and what is written: the files are `a.js` and `c.js`.
+pub const SCRIPT_RUNS: [(&str, &str, Status, &str); 11] = [
     (
         "-t s.js --fuel 1000 a.js c.js",
-        Some(COUNTING),
-        &["a.js", "c.js"],
+        COUNTING,
         Status::Done,
         "skipped a.js\nskipped c.js\nerrors 0\nunmodified 0\nskipped 2\nok 0\n",
     ),
     (
         "-t s.js --fuel 999 --fail-on-error a.js",
-        Some(COUNTING),
-        &["a.js"],
+        COUNTING,
         Status::HadErrors,
         "error a.js: fuel spent\nerrors 1\nunmodified 0\nskipped 0\nok 0\n",
     ),
     (
         "-t s.js --fuel 1000 a.js",
-        Some("module.exports = () => { while (true) {} };"),
-        &["a.js"],
+        "module.exports = () => { while (true) {} };",
         Status::Done,
         "error a.js: fuel spent\nerrors 1\nunmodified 0\nskipped 0\nok 0\n",
     ),
     (
         "-t s.js -p a.js",
-        Some(CHANGING),
-        &["a.js"],
+        CHANGING,
         Status::Done,
         "error a.js: no text yet\nerrors 1\nunmodified 0\nskipped 0\nok 0\n",
     ),
     (
         "-t s.js -d a.js",
-        Some(ANY_PRINTING),
-        &["a.js"],
+        ANY_PRINTING,
         Status::Done,
         "unmodified a.js\nerrors 0\nunmodified 1\nskipped 0\nok 0\n",
     ),
     (
         "-t s.js a.js",
-        Some("module.exports = ;"),
-        &["a.js"],
+        "module.exports = ;",
         Status::NoScript,
         "script s.js: syntax Unexpected at 17\n",
     ),
     (
         "-t s.js a.js",
-        Some("module.exports = () => { return this; };"),
-        &["a.js"],
+        "module.exports = () => { return this; };",
         Status::NoScript,
         "script s.js: form Subset at 32\n",
     ),
     (
         "-t s.js a.js",
-        Some("module.exports = () => y;"),
-        &["a.js"],
+        "module.exports = () => y;",
         Status::NoScript,
         "script s.js: form NoName at 23\n",
     ),
     (
         "-t s.js a.js",
-        Some("let x; let x; module.exports = x;"),
-        &["a.js"],
+        "let x; let x; module.exports = x;",
         Status::NoScript,
         "script s.js: form Twice at 11\n",
     ),
     (
         "-t s.js a.js",
-        Some("let x;"),
-        &["a.js"],
+        "let x;",
         Status::NoScript,
         "script s.js: form NoExport at 6\n",
     ),
     (
         "-t s.js a.js",
-        Some("const x = 1; module.exports = () => { x = 2; };"),
-        &["a.js"],
+        "const x = 1; module.exports = () => { x = 2; };",
         Status::NoScript,
         "script s.js: form ConstWrite at 38\n",
     ),

@@ -1,7 +1,7 @@
 //! Operators.
 
 use super::Given::{self, List, Null, Text, Truth, Undefined, Whole};
-use super::{name_of, new_heap, value_of, written};
+use super::{name_of, new_heap, value_of, write_text, written};
 use crate::{
     MAX_NUMBER, add, compare, equal, is_true, multiply, negate, remainder, same, subtract, type_of,
 };
@@ -88,15 +88,23 @@ const TYPES: &[(Given, bool, &str)] = &[
     (List, true, "object"),
 ];
 
+fn type_name(heap: &mut Heap, value: Value) -> Result<String, Stop> {
+    let mut out = String::new(heap.alloc());
+    let text = heap.spelling(type_of(value));
+    write_text(heap, text, &mut out)?;
+    Ok(out)
+}
+
 #[test]
 fn of_one_operand(rt: HostRuntime) {
     let mut heap = new_heap(rt.alloc()).expect(&rt, "memory");
     for (given, truth, name) in TYPES {
         let value = value_of(&mut heap, *given).expect(&rt, "memory");
-        assert!(rt; is_true(&heap, value) == Ok(*truth), "{name}");
-        let text = Value::Text(heap.spelling(type_of(value)));
-        let text = written(&mut heap, text).expect(&rt, "memory");
-        assert!(rt; text.as_str().trim_matches('\'') == *name, "{name}: {text}");
+        let counts = is_true(&heap, value).expect(&rt, "memory");
+        assert!(rt; counts == *truth, "{name}");
+        let value = value_of(&mut heap, *given).expect(&rt, "memory");
+        let text = type_name(&mut heap, value).expect(&rt, "memory");
+        assert!(rt; text.as_str() == *name, "{name}: {text}");
     }
     assert!(rt; negate(Value::Whole(5)) == Ok(Value::Whole(-5)));
     assert!(rt; negate(Value::Null).is_err());
