@@ -301,14 +301,22 @@ fn call_named(
     answers: &[&str],
     fuel: &mut u64,
 ) -> Result<Value, Stop> {
+    let receiver = on;
     match method(host, on, key)? {
         None => Err(Stop::Fault(script_values::Fault::NoMethod)),
         Some(Callee::Value(value)) => call_value(host, value, arguments, answers, fuel),
         Some(Callee::Method(method)) => {
-            let called = call(host, on, method, arguments, fuel)?;
+            let called = call(host, receiver, method, arguments, fuel)?;
             finished(host, called, answers, fuel)
         }
     }
+}
+
+fn set_and_get(host: &mut Host, on: Value, key: Word, to: Value) -> Result<Value, Stop> {
+    let again = on;
+    let same_key = key;
+    set(host, on, key, to)?;
+    get(host, again, same_key)
 }
 
 // Does what a line says.
@@ -331,8 +339,7 @@ fn done(host: &mut Host, words: &[&str], answers: &[&str], fuel: &mut u64) -> Re
                 Some(value) => *value,
                 None => Value::Undefined,
             };
-            set(host, on, key, to)?;
-            get(host, on, key)
+            set_and_get(host, on, key, to)
         }
         _ => Err(Stop::NoMemory),
     }

@@ -41,7 +41,7 @@ enum Asked {
 }
 
 // The words behind the program's name.
-fn asked(rt: &HostRuntime) -> Option<Asked> {
+fn read_request(rt: &HostRuntime) -> Option<Asked> {
     let mut words = env::args(rt).ok()?.skip(1);
     let script = words.next()?;
     let source = words.next()?;
@@ -142,7 +142,7 @@ fn answer(rt: &HostRuntime, asked: &Asked) -> Option<()> {
 }
 
 fn main(rt: HostRuntime) -> ExitCode {
-    let Some(asked) = asked(&rt) else {
+    let Some(asked) = read_request(&rt) else {
         return ExitCode::from(2);
     };
     match answer(&rt, &asked) {
