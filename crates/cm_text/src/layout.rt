@@ -3,6 +3,13 @@
 ghost use Rattle.cm_text.specs.Layouts.{usual_layout};
 ghost use Rattle.std.specs.Prelude.{◌≡◌};
 
+/// The marks in which a made string stands.
+#[derive(Clone, Copy, Debug, PartialEq, Eq)]
+pub enum Quote {
+    Double,
+    Single,
+}
+
 /// How made text is laid out. A tab is 1 to 16 columns wide: calls that take a layout want that.
 #[derive(Clone, Copy, Debug, PartialEq, Eq)]
 pub struct Layout {
@@ -11,8 +18,8 @@ pub struct Layout {
     pub tab_width: u8,
     /// Indentation is written in tabs as far as they reach.
     pub use_tabs: bool,
-    /// Strings stand in single quotes.
-    pub single: bool,
+    /// The marks of made strings, where they do not follow the source.
+    pub quote: Option<Quote>,
     /// Arrays, objects and their patterns have a comma after the last item.
     pub trailing_comma: bool,
     /// The braces of objects, their patterns and import and export clauses hold no blanks inside.
@@ -22,14 +29,14 @@ pub struct Layout {
 }
 
 impl Layout {
-    /// Tabs 4 columns wide, and all else false.
+    /// Tabs 4 columns wide, strings as in the source, and all else false.
     pub fn usual() -> Layout
         ensures { result ≡ usual_layout }
     {
         Layout {
             tab_width: 4,
             use_tabs: false,
-            single: false,
+            quote: None,
             trailing_comma: false,
             tight_braces: false,
             arrow_parens: false,

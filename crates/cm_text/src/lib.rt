@@ -11,6 +11,6 @@ mod lines;
 mod source;
 
 pub use fault::TextFault;
-pub use layout::Layout;
+pub use layout::{Layout, Quote};
 pub use line_end::LineEnd;
 pub use source::{MAX_LENGTH, Source};

@@ -9,7 +9,7 @@ use Rattle.command_words.specs.declared.invocation.Request.{Request}
 use Rattle.command_words.specs.declared.invocation.Request.TheVariants.{Run, Sample}
 use Rattle.run_report.specs.Texts.{script_line}
 use Rattle.run_report.specs.declared.answer.RowError.{RowError}
-use Rattle.run_report.specs.declared.answer.RowError.TheVariants.{Missing, ReadFault, ListFault, WriteFault, Unnamed, FolderDeep, TooLong, NotUtf8, Syntax, Script, Spent, NoText, BadNode, Form}
+use Rattle.run_report.specs.declared.answer.RowError.TheVariants.{Missing, ReadFault, ListFault, WriteFault, Unnamed, FolderDeep, TooLong, NotUtf8, Syntax, Script, Spent, BadNode, NotReadBack, Form}
 use Rattle.codemod_cmd.specs.Script.{Codemod}
 use Rattle.codemod_cmd.specs.Rows.{HasNone, faults_in, Rises}
 use Rattle.codemod_cmd.specs.Session.{Outside, Stays, first_places, told, Completes, Halts, usage_line, says_of, IsUnread, IsNotRun, IsSample, RunsScript, Finishes, Stops}
@@ -40,7 +40,7 @@ unread held before now script (NotUtf8 at) h = absurd h.0
 unread held before now script (Syntax at kind) h = h
 unread held before now script (Script at kind) h = h
 unread held before now script Spent h = h
-unread held before now script NoText h = h
+unread held before now script NotReadBack h = h
 unread held before now script (BadNode address rule) h = h
 unread held before now script (Form at kind) h = h
 

@@ -12,20 +12,17 @@ use Rattle.first_grammar.specs.Spells.{At, Whole, Reads}
 use Rattle.first_grammar.specs.Reading.{max_nesting}
 use Rattle.first_grammar.specs.Parse.{Refused}
 use Rattle.first_grammar.specs.declared.error.ReadError.TheVariants.{Nesting as TooDeep}
-use Rattle.tree_core.specs.Numbers.{count, numbered}
+use Rattle.tree_core.specs.Numbers.{numbered}
 use Rattle.first_rename.specs.Names.{renamed, count_of}
 use Rattle.first_rename.specs.Edits.{Keeps}
 use Rattle.js_lexer.specs.declared.fault.SyntaxKind.{SyntaxKind}
 use Rattle.js_lexer.specs.declared.fault.SyntaxKind.TheVariants.{Unexpected, Nesting, Lex}
 use Rattle.js_tokens.specs.Words.{word_of}
-use Rattle.js_lexer.specs.Cursors.{SpansFit}
-use Rattle.js_source.specs.Leaves.{LeavesSpelled}
-use Rattle.js_source.specs.Nested.{Nested, whole}
-use Rattle.js_source.specs.Shaped.{InShape}
 use Rattle.source_rename.specs.Edits.{patched}
 use Rattle.source_rename.specs.Whole.{all_edits}
 use Rattle.source_rename.specs.Methods.{bad_method}
-use Rattle.run_report.specs.declared.answer.TreeRule.TheVariants.{Method}
+use Rattle.text_guard.specs.Readings.{IsParsed}
+use Rattle.tree_check.specs.declared.rule.Rule.TheVariants.{Method}
 use Rattle.script_values.specs.declared.fault.Fault.TheVariants.{ListLong}
 use Rattle.run_report.specs.declared.answer.RowError.{RowError}
 use Rattle.run_report.specs.declared.answer.RowError.TheVariants.{TooLong, NotUtf8, Syntax, Script, BadNode}
@@ -60,17 +57,6 @@ pub record Renames (old new s out : List ℕ) : Type 0 where
 -- no tree of the first grammar reads from the source
 abbrev pub IsOther : List ℕ → Type 0
 IsOther s = (t : Tree) → Reads s t → ⊥
-
--- what the reader of the whole language makes of the source: a tree in shape, numbered in preorder, each
--- node within the node around it, and each leaf spelled where it stands
-pub record IsParsed (s : List ℕ) (p : Parsed) : Type 0 where
-  pub nesting : height (syntax p.tree) ≤ max_nesting
-  pub counted : length p.spans ≡ count (syntax p.tree)
-  pub within : SpansFit (length s) p.spans
-  pub preorder : syntax p.tree ≡ numbered 0 (syntax p.tree)
-  pub nested : Nested p.spans (whole (length s)) (syntax p.tree)
-  pub shaped : InShape (syntax p.tree)
-  pub leaves : LeavesSpelled s p.spans (syntax p.tree)
 
 -- the source has a tree, of the first grammar or of the whole language
 abbrev pub HasTree : List ℕ → Type 0

@@ -5,6 +5,7 @@ pub mod Folders
 pub mod Readings
 pub mod Rows
 pub mod RunAnswer
+pub mod RunEndings
 pub mod Script
 pub mod Session
 pub mod Sights

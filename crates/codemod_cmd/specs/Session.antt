@@ -23,7 +23,8 @@ use Rattle.codemod_cmd.specs.Folders.{Place, places, named, Goes}
 use Rattle.sample_gen.specs.Sample.{sample}
 use Rattle.tree_core.specs.declared.span.Parsed.{Parsed}
 use Rattle.codemod_cmd.specs.Script.{Codemod, special, general, renames, IsNoScript, IsOf}
-use Rattle.codemod_cmd.specs.FileAnswer.{FileAnswer, IsSource, IsParsed, FirstBad}
+use Rattle.codemod_cmd.specs.FileAnswer.{FileAnswer, IsSource, FirstBad}
+use Rattle.text_guard.specs.Readings.{IsParsed}
 use Rattle.codemod_cmd.specs.RunAnswer.{RunAnswer}
 use Rattle.codemod_cmd.specs.declared.reading.Unread.{Unread}
 use Rattle.codemod_cmd.specs.declared.reading.Unread.TheVariants.{Refused, NoMemory as NotRead}

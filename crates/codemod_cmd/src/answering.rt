@@ -8,7 +8,6 @@ ghost use Rattle.codemod_cmd.specs.FileAnswer.{FileAnswer, IsSource, IsTreeOf, I
 ghost use Rattle.codemod_cmd.specs.Readings.{IsReading};
 
 use crate::engine::{Engine, Outcome};
-use crate::freeing::let_go;
 use crate::renaming::{renamed, rewritten};
 use crate::transform::Transform;
 use cm_text::{Source, TextFault};
@@ -17,6 +16,7 @@ use js_lexer::{Refusal, SyntaxKind};
 use run_report::{RowAnswer, RowError};
 use std::alloc::{AllocError, Global};
 use tree_core::Parsed;
+use tree_freeing::free_parsed;
 
 /// What the reader of the first grammar makes of a source.
 #[derive(Drop)]
@@ -89,12 +89,12 @@ fn of_other(alloc: Global, source: Source, change: &Transform) -> Result<Outcome
     };
     match change {
         Transform::Print => {
-            let_go(alloc, parsed);
+            free_parsed(alloc, parsed);
             Ok(printed(source))
         }
         Transform::Rename(names) => {
             let outcome = rewritten(alloc, &source, &parsed, names)?;
-            let_go(alloc, parsed);
+            free_parsed(alloc, parsed);
             Ok(outcome)
         }
     }

@@ -1,58 +1,36 @@
 //! What a script other than the two forms comes to over the bytes of a file.
 
 ghost use Rattle.std.specs.Prelude.{◌≡◌, IfOk};
+ghost use Rattle.text_guard.specs.Readings.{IsParsed};
 ghost use Rattle.codemod_cmd.specs.FileAnswer.{IsSource};
-ghost use Rattle.codemod_cmd.specs.RunAnswer.{row_of, RunAnswer};
+ghost use Rattle.codemod_cmd.specs.RunAnswer.{RunAnswer};
+ghost use Rattle.codemod_cmd.specs.RunEndings.{RunEnds};
 
 use crate::answering::{printed, refused};
 use crate::engine::{Engine, Outcome};
-use crate::freeing::let_go;
+use crate::patching::patched;
+use crate::run_ending::{RunEnding, ending_of};
 use arena_trees::load;
-use cm_text::{Source, TextFault};
+use cm_text::{Layout, Source, TextFault};
 use host_fields::Host;
 use js_lexer::Refusal;
 use js_tokens::units;
 use node_arena::Arena;
 use run_report::{RowAnswer, RowError};
 use script_code::Code;
-use script_eval::{Outcome as Ending, Ran, run};
+use script_eval::run;
 use script_values::Heap;
 use std::alloc::{AllocError, Global};
 use tree_core::Parsed;
+use tree_freeing::{free_parsed, free_tree};
 
-/// A script that was checked and prepared, and the fuel that it has for each file.
+/// A script that was checked and prepared, the fuel that it has for each file, and the layout of the
+/// text that is made of what it changes.
 #[derive(Drop)]
 pub struct Codemod {
     pub code: Code,
     pub fuel: u64,
-}
-
-// The row and the text by how the script ended, and by how many of its prints had something new.
-fn told(alloc: Global, source: Source, ran: &Ran, prints: u32) -> Outcome
-    ensures answer { result.answer ≡ row_of ran.now.outcome prints }
-    ensures text { result.answer ≡ RowAnswer.Unmodified → result.text.items ≡ source }
-{
-    match ran.outcome {
-        Ending::Same => printed(source),
-        Ending::Printed => {
-            if prints == 0 {
-                return printed(source);
-            }
-            Outcome::error(alloc, RowError::NoText)
-        }
-        Ending::Nothing => Outcome {
-            answer: RowAnswer::Skipped,
-            text: Vec::new(alloc),
-        },
-        Ending::Spent => Outcome::error(alloc, RowError::Spent),
-        Ending::Fault(fault) => Outcome::error(
-            alloc,
-            RowError::Script {
-                at: fault.at,
-                kind: fault.kind,
-            },
-        ),
-    }
+    pub layout: Layout,
 }
 
 // The host of a run over the source: its tree in the forest, its text and the words of the script in
@@ -79,6 +57,49 @@ fn host_of(
     }
 }
 
+// Runs the script over the tree of the source: how it ended.
+fn run_over(
+    alloc: Global,
+    codemod: &Codemod,
+    name: &str,
+    source: &Source,
+    parsed: &Parsed,
+) -> Result<RunEnding, AllocError>
+    requires { IsParsed source.now parsed.now }
+    ensures { IfOk result (RunEnds codemod.now.fuel source.now) }
+{
+    let mut host = host_of(alloc, &codemod.code, source, parsed)?;
+    let ran = run(&codemod.code, &mut host, name, codemod.fuel)?;
+    ending_of(alloc, &ran, host.prints, &host.arena)
+}
+
+// The row and the text by how the run ended.
+fn told(
+    alloc: Global,
+    codemod: &Codemod,
+    source: Source,
+    parsed: &Parsed,
+    ending: RunEnding,
+) -> Result<Outcome, AllocError>
+    requires source { IsSource source }
+    requires ends { RunEnds codemod.now.fuel source ending }
+    ensures { IfOk result (λ o. RunAnswer codemod.now.fuel source o.answer o.text.items) }
+{
+    match ending {
+        RunEnding::Unchanged => Ok(printed(source)),
+        RunEnding::Changed(tree) => {
+            let outcome = patched(alloc, codemod.layout, source, parsed, &tree)?;
+            free_tree(alloc, parsed.spans.as_slice(), tree);
+            Ok(outcome)
+        }
+        RunEnding::Nothing => Ok(Outcome {
+            answer: RowAnswer::Skipped,
+            text: Vec::new(alloc),
+        }),
+        RunEnding::Refused(error) => Ok(Outcome::error(alloc, error)),
+    }
+}
+
 // What comes of a source.
 fn over_source(
     alloc: Global,
@@ -94,10 +115,10 @@ fn over_source(
         Err(Refusal::Syntax(fault)) => return Ok(refused(alloc, fault.at, fault.kind)),
         Err(Refusal::NoMemory) => return Err(AllocError),
     };
-    let mut host = host_of(alloc, &codemod.code, &source, &parsed)?;
-    let_go(alloc, parsed);
-    let ran = run(&codemod.code, &mut host, name, codemod.fuel)?;
-    Ok(told(alloc, source, &ran, host.prints))
+    let ending = run_over(alloc, codemod, name, &source, &parsed)?;
+    let outcome = told(alloc, codemod, source, &parsed, ending)?;
+    free_parsed(alloc, parsed);
+    Ok(outcome)
 }
 
 impl Engine for Codemod {

@@ -3,16 +3,18 @@
 ghost use Rattle.std.specs.Prelude.{◌≡◌, IfOk};
 ghost use Rattle.tree_core.specs.View.{syntax};
 ghost use Rattle.codemod_cmd.specs.Script.{renames};
-ghost use Rattle.codemod_cmd.specs.FileAnswer.{FileAnswer, IsSource, IsTreeOf, IsOther, IsParsed};
+ghost use Rattle.text_guard.specs.Readings.{IsParsed};
+ghost use Rattle.codemod_cmd.specs.FileAnswer.{FileAnswer, IsSource, IsTreeOf, IsOther};
 ghost use Rattle.codemod_cmd.specs.Readings.{IsTold};
 
 use crate::engine::Outcome;
 use crate::script::Renaming;
 use cm_text::Source;
-use run_report::{RowAnswer, RowError, TreeRule};
+use run_report::{RowAnswer, RowError};
 use script_values::Fault;
 use source_rename::RenameError;
 use std::alloc::{AllocError, Global};
+use tree_check::Rule;
 use tree_core::Parsed;
 
 /// The most items of a list in a script.
@@ -77,7 +79,7 @@ pub fn rewritten(
         Ok(text) => Ok(told(source.bytes(), text)),
         Err(RenameError::ListLong) => Ok(list_long(alloc)),
         Err(RenameError::BadMethod(address)) => {
-            let rule = TreeRule::Method;
+            let rule = Rule::Method;
             Ok(Outcome::error(alloc, RowError::BadNode { address, rule }))
         }
         Err(RenameError::NoMemory) => Err(AllocError),

@@ -72,7 +72,7 @@ fn run_command<S: Store, O: Sink>(
         let engine = &engine;
         return run_job(alloc, &Job { engine, command }, store, out);
     }
-    let codemod = match prepared(alloc, &source, command.fuel) {
+    let codemod = match prepared(alloc, &source, command.fuel, command.layout) {
         Ok(codemod) => codemod,
         Err(Unread::Refused(error)) => return refuse_script(alloc, out, name, &error),
         Err(Unread::NoMemory) => return Err(Stop::NoMemory),

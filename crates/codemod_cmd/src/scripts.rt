@@ -6,7 +6,7 @@ ghost use Rattle.codemod_cmd.specs.Session.{Sourced, RefusedScript};
 use crate::codemod::Codemod;
 use crate::reading::{Unread, load};
 use cm_store::Store;
-use cm_text::{Source, TextFault};
+use cm_text::{Layout, Source, TextFault};
 use host_fields::known_names;
 use js_lexer::Refusal;
 use run_report::RowError;
@@ -31,8 +31,14 @@ pub fn read_script<S: Store>(alloc: Global, store: &mut S, name: &str) -> Result
     }
 }
 
-/// The codemod of a source that is a script of neither form, with so much fuel for each file.
-pub fn prepared(alloc: Global, source: &Source, fuel: u64) -> Result<Codemod, Unread>
+/// The codemod of a source that is a script of neither form, with so much fuel for each file, and
+/// with the layout of made text.
+pub fn prepared(
+    alloc: Global,
+    source: &Source,
+    fuel: u64,
+    layout: Layout,
+) -> Result<Codemod, Unread>
     ensures fuel { IfOk result (λ codemod. codemod.fuel ≡ fuel) }
     ensures refused { RefusedScript source.now result }
 {
@@ -57,7 +63,7 @@ pub fn prepared(alloc: Global, source: &Source, fuel: u64) -> Result<Codemod, Un
         Err(ScriptError::NoMemory) => return Err(Unread::NoMemory),
     };
     match code_of(alloc, &script) {
-        Ok(code) => Ok(Codemod { code, fuel }),
+        Ok(code) => Ok(Codemod { code, fuel, layout }),
         Err(_) => Err(Unread::NoMemory),
     }
 }

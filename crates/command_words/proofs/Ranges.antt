@@ -7,7 +7,8 @@ use Rattle.clap.specs.Words.{Row, Text, first_of}
 use Rattle.clap.proofs.WalkLemmas.{both}
 use Rattle.cm_text.specs.Layouts.{HasTabWidth}
 use Rattle.cm_text.specs.declared.layout.Layout.{Layout}
-use Rattle.command_words.specs.Invocations.{IsInRanges, are_taken, extensions_of, fuel_of, invocation_in, invocation_of, layout_of, layout_with, made, matches, single_of, tab_width_of}
+use Rattle.cm_text.specs.declared.layout.Quote.{Quote}
+use Rattle.command_words.specs.Invocations.{IsInRanges, are_taken, extensions_of, fuel_of, invocation_in, invocation_of, layout_of, layout_with, made, matches, quote_of, tab_width_of}
 use Rattle.command_words.specs.Values.{fuel_in, is_decimal, number_to, one_to}
 
 abbrev pub Within : ℕ → ℕ → Type 0
@@ -38,9 +39,9 @@ width_within : (rows : List Row) → IfSome (tab_width_of rows) (Within 16)
 width_within rows = usual_or 16 4 (number_to 16) (first_of (codes "tab-width") rows) (omega arith, omega arith) (number_within 16)
 
 layout_within : (rows : List Row) → IfSome (layout_of rows) HasTabWidth
-layout_within rows = go (tab_width_of rows) (single_of rows) (width_within rows)
+layout_within rows = go (tab_width_of rows) (quote_of rows) (width_within rows)
   where
-    go : (w : Option ℕ) (s : Option Bool) → IfSome w (Within 16) → IfSome (option_and_then (λ width. option_map (layout_with rows width) s) w) HasTabWidth
+    go : (w : Option ℕ) (s : Option (Option Quote)) → IfSome w (Within 16) → IfSome (option_and_then (λ width. option_map (layout_with rows width) s) w) HasTabWidth
     go None s h = tt
     go (Some w) None h = tt
     go (Some w) (Some s) h = record { least = h.0; most = h.1 }

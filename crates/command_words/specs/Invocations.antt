@@ -5,9 +5,10 @@ use Rattle.std.specs.Str.{bytes_eq}
 use Rattle.clap.specs.Words.{Row, Text, all_of, first_of, matches_of, takes}
 use Rattle.cm_text.specs.Layouts.{HasTabWidth}
 use Rattle.cm_text.specs.declared.layout.Layout.{Layout}
+use Rattle.cm_text.specs.declared.layout.Quote.{Quote}
 use Rattle.command_words.specs.declared.invocation.Invocation.{Invocation}
 use Rattle.command_words.specs.Shape.{command}
-use Rattle.command_words.specs.Values.{fuel_in, names_in, number_to, single_in}
+use Rattle.command_words.specs.Values.{fuel_in, names_in, number_to, quote_in}
 
 -- `clap` takes the words as those of the command
 unfoldable pub are_taken : List Text → Bool
@@ -30,21 +31,22 @@ extensions_of rows = option_map_or names_in (first_of (codes "extensions") rows)
 abbrev pub tab_width_of : List Row → Option ℕ
 tab_width_of rows = option_map_or (number_to 16) (first_of (codes "tab-width") rows) (Some 4)
 
-abbrev pub single_of : List Row → Option Bool
-single_of rows = option_map_or single_in (first_of (codes "quote") rows) (Some false)
+-- the marks of strings, if the words ask for some
+abbrev pub quote_of : List Row → Option (Option Quote)
+quote_of rows = option_map_or (λ text. option_map Some (quote_in text)) (first_of (codes "quote") rows) (Some None)
 
-abbrev pub layout_with : List Row → ℕ → Bool → Layout
-layout_with rows width single = record {
+abbrev pub layout_with : List Row → ℕ → Option Quote → Layout
+layout_with rows width quote = record {
   tab_width = width;
   use_tabs = is_set (codes "use-tabs") rows;
-  single = single;
+  quote = quote;
   trailing_comma = is_set (codes "trailing-comma") rows;
   tight_braces = is_set (codes "no-curly-spacing") rows;
   arrow_parens = is_set (codes "arrow-parens") rows;
 }
 
 abbrev pub layout_of : List Row → Option Layout
-layout_of rows = option_and_then (λ width. option_map (layout_with rows width) (single_of rows)) (tab_width_of rows)
+layout_of rows = option_and_then (λ width. option_map (layout_with rows width) (quote_of rows)) (tab_width_of rows)
 
 abbrev pub invocation_with : List Row → Text → List Text → ℕ → List Text → Layout → Invocation
 invocation_with rows script files fuel extensions layout = record {

@@ -1,10 +1,12 @@
 -- What the values of options say.
-use Rattle.std.specs.Prelude.{ℕ, ◌==◌, ◌&&◌, Bool, true, false, List, length, Option, Some, None, if◌then◌else◌, nat_le, codes}
+use Rattle.std.specs.Prelude.{ℕ, ◌==◌, ◌&&◌, Bool, List, length, Option, Some, None, if◌then◌else◌, nat_le, codes}
 use Rattle.std.specs.Char.{is_digit}
 use Rattle.std.specs.List.{list_all, list_any, slice_split}
 use Rattle.std.specs.Str.{bytes_eq}
 use Rattle.std.specs.Str.Parse.{digits_value}
 use Rattle.clap.specs.Words.{Text}
+use Rattle.cm_text.specs.declared.layout.Quote.{Quote}
+use Rattle.cm_text.specs.declared.layout.Quote.TheVariants.{Double, Single}
 
 -- decimal digits and nothing else
 abbrev pub is_decimal : Text → Bool
@@ -31,6 +33,6 @@ none_empty names = if list_any is_empty names then None else Some names
 abbrev pub names_in : Text → Option (List Text)
 names_in text = none_empty (slice_split (λ c. c == 44) text)
 
--- whether strings are to stand in single quotes
-abbrev pub single_in : Text → Option Bool
-single_in text = if bytes_eq text (codes "single") then Some true else if bytes_eq text (codes "double") then Some false else None
+-- the marks in which strings are to stand
+abbrev pub quote_in : Text → Option Quote
+quote_in text = if bytes_eq text (codes "single") then Some Single else if bytes_eq text (codes "double") then Some Double else None

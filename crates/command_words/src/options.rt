@@ -4,9 +4,9 @@ ghost use Rattle.std.specs.Prelude.{◌≡◌, IfOk, map, option_map};
 ghost use Rattle.clap.specs.Words.{all_of, first_of, found_of, rows_of};
 ghost use Rattle.command_words.specs.Invocations as spec;
 
-use crate::values::{add, fuel_in, names_in, single_in, tab_width_in};
+use crate::values::{add, fuel_in, names_in, quote_in, tab_width_in};
 use clap::ArgMatches;
-use cm_text::Layout;
+use cm_text::{Layout, Quote};
 use sqlite_items::Items;
 use std::alloc::{AllocError, Global};
 use tree_core::Names;
@@ -66,12 +66,13 @@ fn tab_width(matches: &ArgMatches) -> Option<u8>
     }
 }
 
-fn single(matches: &ArgMatches) -> Option<bool>
-    ensures { result ≡ spec.single_of (rows_of (found_of matches.now)) }
+// The marks that the words ask for, if they do; `None` of a word that names none.
+fn quote(matches: &ArgMatches) -> Option<Option<Quote>>
+    ensures { result ≡ spec.quote_of (rows_of (found_of matches.now)) }
 {
     match first(matches, "quote") {
-        Some(text) => single_in(text),
-        None => Some(false),
+        Some(text) => Some(Some(quote_in(text)?)),
+        None => Some(None),
     }
 }
 
@@ -79,11 +80,11 @@ pub(crate) fn layout(matches: &ArgMatches) -> Option<Layout>
     ensures { result ≡ spec.layout_of (rows_of (found_of matches.now)) }
 {
     let tab_width = tab_width(matches)?;
-    let single = single(matches)?;
+    let quote = quote(matches)?;
     Some(Layout {
         tab_width,
         use_tabs: is_set(matches, "use-tabs"),
-        single,
+        quote,
         trailing_comma: is_set(matches, "trailing-comma"),
         tight_braces: is_set(matches, "no-curly-spacing"),
         arrow_parens: is_set(matches, "arrow-parens"),

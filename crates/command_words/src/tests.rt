@@ -1,6 +1,7 @@
 //! Lines of words, and what they ask for.
 
 use crate::{Invocation, Request, read_words};
+use cm_text::Quote;
 use std::alloc::{AllocError, Global};
 use std::test::Fail;
 
@@ -92,7 +93,7 @@ fn shown(alloc: Global, read: &Invocation) -> Result<String, Fail> {
         (read.print, " print"),
         (read.fail_on_error, " fail"),
         (read.layout.use_tabs, " tabs"),
-        (read.layout.single, " single"),
+        (read.layout.quote == Some(Quote::Single), " single"),
         (read.layout.trailing_comma, " comma"),
         (read.layout.tight_braces, " tight"),
         (read.layout.arrow_parens, " arrow"),

@@ -3,6 +3,7 @@
 ghost use Rattle.std.specs.Prelude.{◌≡◌, ◌++◌, ◌∷◌, ◌≤◌, [], IfOk, IfSome, OnOk, map};
 ghost use Rattle.command_words.specs.Values as spec;
 
+use cm_text::Quote;
 use sqlite_items::Items;
 use std::alloc::{AllocError, Global};
 use tree_core::{Name, Names};
@@ -101,14 +102,14 @@ pub(crate) fn add(alloc: Global, names: &mut Names, text: &str) -> Result<(), Al
     names.push(name)
 }
 
-/// Whether strings are to stand in single quotes.
-pub(crate) fn single_in(text: &str) -> Option<bool>
-    ensures { result ≡ spec.single_in text.now }
+/// The marks in which strings are to stand.
+pub(crate) fn quote_in(text: &str) -> Option<Quote>
+    ensures { result ≡ spec.quote_in text.now }
 {
     if text == "single" {
-        Some(true)
+        Some(Quote::Single)
     } else if text == "double" {
-        Some(false)
+        Some(Quote::Double)
     } else {
         None
     }

@@ -8,10 +8,10 @@ use Rattle.js_lexer.specs.declared.fault.SyntaxKind.{SyntaxKind}
 use Rattle.js_lexer.specs.declared.fault.SyntaxKind.TheVariants as syntax
 use Rattle.script_check.specs.Names.{form_name}
 use Rattle.script_values.specs.Faults.{fault_name}
-use Rattle.run_report.specs.declared.answer.TreeRule.{TreeRule}
-use Rattle.run_report.specs.declared.answer.TreeRule.TheVariants as rule
+use Rattle.tree_check.specs.Rules.{rule_name}
+use Rattle.tree_check.specs.declared.rule.Rule.{Rule}
 use Rattle.run_report.specs.declared.answer.RowError.{RowError}
-use Rattle.run_report.specs.declared.answer.RowError.TheVariants.{Missing, ReadFault, ListFault, WriteFault, Unnamed, FolderDeep, TooLong, NotUtf8, Syntax, Script, Spent, NoText, BadNode, Form}
+use Rattle.run_report.specs.declared.answer.RowError.TheVariants.{Missing, ReadFault, ListFault, WriteFault, Unnamed, FolderDeep, TooLong, NotUtf8, Syntax, Script, Spent, BadNode, NotReadBack, Form}
 
 unfoldable pub lex_name : LexFaultKind → List ℕ
 lex_name lex.OpenString = codes "OpenString"
@@ -27,9 +27,6 @@ syntax_name (syntax.Lex kind) = lex_name kind
 syntax_name syntax.Unexpected = codes "Unexpected"
 syntax_name syntax.Nesting = codes "Nesting"
 
-unfoldable pub rule_name : TreeRule → List ℕ
-rule_name rule.Method = codes "Method"
-
 -- one step of an address
 unfoldable pub step_text : ℕ → List ℕ
 step_text step = codes "/" ++ decimal step
@@ -40,7 +37,7 @@ address_text [] = codes "/"
 address_text (step ∷ steps) = flat_map step_text (step ∷ steps)
 
 -- a rule that the node at the address breaks
-unfoldable pub broken : List ℕ → TreeRule → List ℕ
+unfoldable pub broken : List ℕ → Rule → List ℕ
 broken address rule = codes "bad node " ++ address_text address ++ codes " " ++ rule_name rule
 
 -- something of this name at an offset
@@ -59,6 +56,6 @@ error_text (NotUtf8 at) = placed (codes "not ") (codes "UTF-8") at
 error_text (Syntax at kind) = placed (codes "syntax ") (syntax_name kind) at
 error_text (Script at kind) = placed (codes "script ") (fault_name kind) at
 error_text Spent = codes "fuel spent"
-error_text NoText = codes "no text yet"
 error_text (BadNode address rule) = broken address rule
+error_text NotReadBack = codes "text does not read back"
 error_text (Form at kind) = placed (codes "form ") (form_name kind) at

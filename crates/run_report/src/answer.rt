@@ -3,15 +3,8 @@
 use js_lexer::SyntaxKind;
 use script_check::FormKind;
 use script_values::Fault;
+use tree_check::Rule;
 use tree_core::Address;
-
-/// Why a tree has no text.
-#[derive(Clone, Copy, Debug, PartialEq, Eq)]
-pub enum TreeRule {
-    /// A method is no such method: of the kind `constructor` are exactly those of that name that
-    /// are not static, no accessors, and have a key that is not computed.
-    Method,
-}
 
 /// Why a file, a folder or a script has no answer. Offsets count bytes.
 #[derive(Debug, Drop)]
@@ -38,10 +31,10 @@ pub enum RowError {
     Script { at: u32, kind: Fault },
     /// The script used its fuel up.
     Spent,
-    /// The script changed the tree, and a changed tree has no text yet.
-    NoText,
     /// The tree that the script made breaks the rule at the node of this address.
-    BadNode { address: Address, rule: TreeRule },
+    BadNode { address: Address, rule: Rule },
+    /// The text that was made of the tree is not read as that tree.
+    NotReadBack,
     /// The program breaks a rule of scripts at this offset. Of scripts alone.
     Form { at: u32, kind: FormKind },
 }

@@ -5,9 +5,10 @@ ghost use Rattle.std.specs.Fmt.{decimal};
 ghost use Rattle.std.specs.List.{flat_map};
 ghost use Rattle.run_report.specs.Errors as spec;
 
-use crate::answer::{RowError, TreeRule};
+use crate::answer::RowError;
 use js_lexer::{LexFaultKind, SyntaxKind};
 use std::alloc::{AllocError, Global};
+use tree_check::Rule;
 use tree_core::Address;
 
 #[tactic(auto, unfolding(crate::specs::Errors::lex_name))]
@@ -33,15 +34,6 @@ fn syntax_name(kind: SyntaxKind) -> &'static str
         SyntaxKind::Lex(kind) => lex_name(kind),
         SyntaxKind::Unexpected => "Unexpected",
         SyntaxKind::Nesting => "Nesting",
-    }
-}
-
-#[tactic(auto, unfolding(crate::specs::Errors::rule_name))]
-fn rule_name(rule: TreeRule) -> &'static str
-    ensures { result.now ≡ spec.rule_name rule }
-{
-    match rule {
-        TreeRule::Method => "Method",
     }
 }
 
@@ -110,14 +102,14 @@ fn address_text(alloc: Global, address: &Address) -> Result<Vec<u8>, AllocError>
 
 #[tactic(auto, unfolding(crate::specs::Errors::broken))]
 // A rule that a node breaks.
-fn broken(alloc: Global, address: &Address, rule: TreeRule) -> Result<Vec<u8>, AllocError>
+fn broken(alloc: Global, address: &Address, rule: Rule) -> Result<Vec<u8>, AllocError>
     ensures { IfOk result (λ v. v.items ≡ spec.broken address.now rule) }
 {
     let place = address_text(alloc, address)?;
     let mut text = plain(alloc, "bad node ")?;
     text.extend_from_slice(&place)?;
     text.push(b' ')?;
-    text.extend_from_slice(rule_name(rule).as_bytes())?;
+    text.extend_from_slice(rule.name().as_bytes())?;
     Ok(text)
 }
 
@@ -138,8 +130,8 @@ pub(crate) fn error_text(alloc: Global, error: &RowError) -> Result<Vec<u8>, All
         RowError::Syntax { at, kind } => placed(alloc, "syntax ", syntax_name(*kind), *at),
         RowError::Script { at, kind } => placed(alloc, "script ", kind.name(), *at),
         RowError::Spent => plain(alloc, "fuel spent"),
-        RowError::NoText => plain(alloc, "no text yet"),
         RowError::BadNode { address, rule } => broken(alloc, address, *rule),
+        RowError::NotReadBack => plain(alloc, "text does not read back"),
         RowError::Form { at, kind } => placed(alloc, "form ", kind.name(), *at),
     }
 }

@@ -8,6 +8,6 @@ mod counts;
 mod errors;
 mod texts;
 
-pub use answer::{RowAnswer, RowError, TreeRule};
+pub use answer::{RowAnswer, RowError};
 pub use counts::Counts;
 pub use texts::{error_row, push_printed, row_text, sample_text, script_text, summary};

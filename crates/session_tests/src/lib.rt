@@ -3,6 +3,10 @@
 #![tactic(auto)]
 
 #[cfg(test)]
+mod changes;
+#[cfg(test)]
+mod layouts;
+#[cfg(test)]
 mod runs;
 #[cfg(test)]
 mod tables;

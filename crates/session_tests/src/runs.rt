@@ -1,5 +1,7 @@
 //! Runs over files in memory.
 
+use crate::changes::{CHANGES, DEEPENING};
+use crate::layouts::LAYOUTS;
 use crate::tables::{LIMITS, RENAMED, ROWS, RUNS, SCRIPT, SCRIPT_RUNS, SOURCE};
 use cm_store::{
     Calls, Files, MemorySink, MemoryStore, Store, StoredFile, UnnamedCount, UnnamedList,
@@ -141,6 +143,37 @@ fn rows(rt: HostRuntime) -> Result<(), Fail> {
         assert!(rt;
             dry_run_writes(alloc, script, source, wanted.as_str())?,
             "for {row}"
+        );
+    }
+    Ok(())
+}
+
+#[test]
+fn changes(rt: HostRuntime) -> Result<(), Fail> {
+    let alloc = rt.alloc();
+    for (script, source, row) in CHANGES.iter() {
+        let wanted = with_counts(alloc, row)?;
+        assert!(rt;
+            dry_run_writes(alloc, script, source, wanted.as_str())?,
+            "for {row}"
+        );
+    }
+    Ok(())
+}
+
+#[test]
+fn layouts(rt: HostRuntime) -> Result<(), Fail> {
+    let alloc = rt.alloc();
+    for (change, source, text) in LAYOUTS.iter() {
+        let script = format!(in alloc;
+            "module.exports = (file, {{ j }}) => {{ const root = j(file.source);\n{change}\nreturn root.toSource(); }};\n"
+        )?;
+        let count = text.len();
+        let row = format!(in alloc; "ok a.js\ntext {count}\n{text}\n")?;
+        let wanted = with_counts(alloc, row.as_str())?;
+        assert!(rt;
+            dry_run_writes(alloc, script.as_str(), source.as_bytes(), wanted.as_str())?,
+            "for {text}"
         );
     }
     Ok(())
@@ -319,8 +352,8 @@ fn nested(alloc: Global, calls: u32) -> Result<String, AllocError> {
 }
 
 // Whether what a dry run over the source writes begins so.
-fn begins(alloc: Global, source: &str, line: &str) -> Result<bool, AllocError> {
-    let mut store = store_of(alloc, Some(SCRIPT), &["a.js"], source.as_bytes(), None)?;
+fn begins(alloc: Global, script: &str, source: &str, line: &str) -> Result<bool, AllocError> {
+    let mut store = store_of(alloc, Some(script), &["a.js"], source.as_bytes(), None)?;
     let (status, written) = outcome(alloc, "-t s.js -d -p a.js", &mut store, None)?;
     Ok(status == Status::Done && written.starts_with(line.as_bytes()))
 }
@@ -329,21 +362,30 @@ fn begins(alloc: Global, source: &str, line: &str) -> Result<bool, AllocError> {
 fn limits(rt: HostRuntime) -> Result<(), Fail> {
     let alloc = rt.alloc();
     let source = nested(alloc, 997)?;
-    assert!(rt; begins(alloc, source.as_str(), "ok a.js\ntext 2993\n")?);
+    assert!(rt; begins(alloc, SCRIPT, source.as_str(), "ok a.js\ntext 2993\n")?);
     let source = nested(alloc, 998)?;
     assert!(rt;
         begins(
             alloc,
+            SCRIPT,
             source.as_str(),
             "error a.js: syntax Nesting at 1996\n"
         )?
     );
+    assert!(rt; begins(alloc, DEEPENING, "a;", "error a.js: bad node /0/0/0/0")?);
     let closing = repeated(alloc, "a", ")", 1_001, "")?;
     let source = repeated(alloc, "", "(", 1_001, closing.as_str())?;
-    assert!(rt; begins(alloc, source.as_str(), "error a.js: syntax Nesting at ")?);
+    assert!(rt;
+        begins(
+            alloc,
+            SCRIPT,
+            source.as_str(),
+            "error a.js: syntax Nesting at "
+        )?
+    );
     for (front, piece, times, back, line) in LIMITS.iter() {
         let source = repeated(alloc, front, piece, *times, back)?;
-        assert!(rt; begins(alloc, source.as_str(), line)?, "for {line}");
+        assert!(rt; begins(alloc, SCRIPT, source.as_str(), line)?, "for {line}");
     }
     Ok(())
 }

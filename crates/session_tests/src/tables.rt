@@ -1,5 +1,6 @@
 //! The cases of the runs: what goes in, and what comes out.
 
+use crate::changes::{INSERTING, NAMING};
 use codemod_cmd::Status;
 
 pub const SCRIPT: &str =
@@ -128,7 +129,7 @@ pub const ROWS: [(&str, &[u8], &str); 45] = [
         "error a.js: syntax OpenTemplate at 4\n",
     ),
     (ANY_PRINTING, b"abc\xFF", "error a.js: not UTF-8 at 3\n"),
-    (CHANGING, b"a;", "error a.js: no text yet\n"),
+    (CHANGING, b"a;", "ok a.js\ntext 2\nb;\n"),
     (CHANGING, b"1;", "unmodified a.js\n"),
     (
         "module.exports = (f, api) => { api.j.literal(-1); };",
@@ -259,7 +260,7 @@ pub const RUNS: [(&str, Option<&str>, &[&str], Status, &str); 14] = [
 ];
 
 // Words, a script of neither form, the status and what is written: the files are `a.js` and `c.js`.
-pub const SCRIPT_RUNS: [(&str, &str, Status, &str); 11] = [
+pub const SCRIPT_RUNS: [(&str, &str, Status, &str); 12] = [
     (
         "-t s.js --fuel 1000 a.js c.js",
         COUNTING,
@@ -280,9 +281,15 @@ pub const SCRIPT_RUNS: [(&str, &str, Status, &str); 11] = [
     ),
     (
         "-t s.js -p a.js",
-        CHANGING,
+        NAMING,
         Status::Done,
-        "error a.js: no text yet\nerrors 1\nunmodified 0\nskipped 0\nok 0\n",
+        "ok a.js\ntext 10\nfoo(b, b);\nerrors 0\nunmodified 0\nskipped 0\nok 1\n",
+    ),
+    (
+        "-t s.js -d -p --quote single a.js",
+        INSERTING,
+        Status::Done,
+        "ok a.js\ntext 18\nfoo(a, b);\nf('x');\nerrors 0\nunmodified 0\nskipped 0\nok 1\n",
     ),
     (
         "-t s.js -d a.js",

@@ -157,7 +157,7 @@ begins_in form (piece ∷ more) = if has_children (plain form piece) then true e
 abbrev pub begins_bare : Variant → Bool
 begins_bare v = begins_in v.form (pieces_of v)
 
--- how many tokens a piece spells: 0, 1, or more
+-- how many tokens a piece spells: 0, 1, or more, where a choice may be of more
 abbrev pub tokens_at : Category → ℕ
 tokens_at c.Name = 1
 tokens_at c.AnyName = 1
@@ -177,6 +177,7 @@ tokens_of single (p.First place) = 2
 tokens_of single (p.Into place) = 2
 tokens_of single (p.Row place semicolons) = 2
 tokens_of single (p.Commas place holes last) = 2
+tokens_of single (p.Choice choice) = 2
 tokens_of single (p.Twins before place) = one_or_more single
 tokens_of single (p.Template cooked) = one_or_more single
 tokens_of single _ = 0

@@ -317,7 +317,11 @@ fn tokens_of(single: bool, piece: Piece) -> u8
     match piece {
         Piece::Interpreter | Piece::Token(_) | Piece::Text(_) | Piece::End(_, _) => 1,
         Piece::Child(place) => tokens_at(place.category),
-        Piece::First(_) | Piece::Into(_) | Piece::Row(_, _) | Piece::Commas(_, _, _) => 2,
+        Piece::First(_)
+        | Piece::Into(_)
+        | Piece::Row(_, _)
+        | Piece::Commas(_, _, _)
+        | Piece::Choice(_) => 2,
         Piece::Twins(_, _) | Piece::Template(_) => { if single { 1 } else { 2 } }
         _ => 0,
     }

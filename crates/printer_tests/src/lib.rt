@@ -1,0 +1,6 @@
+//! Texts that are made of trees: sources that are read, printed whole and read again as the same
+//! trees, and sources whose made text is known.
+#![tactic(auto)]
+
+#[cfg(test)]
+mod tests;
