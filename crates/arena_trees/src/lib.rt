@@ -8,8 +8,6 @@ mod fault;
 mod loading;
 mod places;
 mod saying;
-#[cfg(test)]
-mod tests;
 mod unloading;
 
 pub use fault::UnloadFault;

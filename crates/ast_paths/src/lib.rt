@@ -11,8 +11,6 @@ mod plan;
 mod pruning;
 mod reads;
 mod settling;
-#[cfg(test)]
-mod tests;
 
 pub use changes::{insert_after, insert_before, replace};
 pub use fault::PathFault;

@@ -16,8 +16,6 @@ mod output;
 mod sink;
 mod store;
 mod stored;
-#[cfg(test)]
-mod tests;
 
 pub use files::FileStore;
 pub use lists::{Calls, Files, StoredFile, UnnamedCount, UnnamedList};

@@ -15,8 +15,6 @@ mod list;
 mod matching;
 mod pattern;
 mod preorder;
-#[cfg(test)]
-mod tests;
 mod walks;
 
 pub use ancestors::closest;

@@ -17,6 +17,3 @@ pub use reading::read_words;
 /// What is printed where the words are not those of the command.
 pub const USAGE: &str =
     "usage: codemod -t SCRIPT [-d] [-p] [--fuel N] [--extensions LIST] [--fail-on-error] [--tab-width N] [--use-tabs] [--quote Q] [--trailing-comma] [--no-curly-spacing] [--arrow-parens] FILE...\n";
-
-#[cfg(test)]
-mod tests;

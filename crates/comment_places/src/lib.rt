@@ -3,7 +3,5 @@
 
 mod children;
 mod seating;
-#[cfg(test)]
-mod tests;
 
 pub use seating::{Seat, Seats, seats};

@@ -6,3 +6,5 @@
 mod reading;
 #[cfg(test)]
 mod renaming;
+#[cfg(test)]
+mod whole;

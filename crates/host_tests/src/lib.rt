@@ -6,3 +6,5 @@
 mod asking;
 #[cfg(test)]
 mod tests;
+#[cfg(test)]
+mod values;

@@ -34,17 +34,3 @@ pub use operator::{
 pub use own::{access_of, key_of, link_of, plain, sort_of, standing_of, variable_of};
 pub use piece::{Blank, Choice, Fixed, Lexeme, MetaWord, Own, Piece, Place, Spelling, Test};
 pub use table::{Row, Spelled, first_pieces, first_row, pieces, second_row, spellings};
-
-#[cfg(test)]
-mod tests {
-    use crate::{Flow, Form, Link, first_pieces, level, scalars};
-    use std::alloc::AllocError;
-
-    #[test]
-    fn table(rt: HostRuntime) -> Result<(), AllocError> {
-        assert!(rt; first_pieces(Form::If).len() == 8);
-        assert!(rt; level(Form::Dot(Link::Plain)) == 18);
-        assert!(rt; scalars(rt.alloc(), Form::Function(Flow::Async))?.len() == 2);
-        Ok(())
-    }
-}

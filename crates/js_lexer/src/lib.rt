@@ -14,8 +14,6 @@ mod numbers;
 mod parts;
 mod quoted;
 mod scanning;
-#[cfg(test)]
-mod tests;
 
 pub use blanks::has_line_end;
 pub use cursor::Cursor;

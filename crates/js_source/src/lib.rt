@@ -15,8 +15,6 @@ mod lines;
 mod numbering;
 mod quasis;
 mod shape;
-#[cfg(test)]
-mod tests;
 mod whole;
 mod work_stack;
 

@@ -11,8 +11,6 @@ mod same;
 mod scalars;
 mod statements;
 mod template;
-#[cfg(test)]
-mod tests;
 mod words;
 
 pub use leaf::is_spelled;

@@ -16,8 +16,6 @@ mod payload;
 mod preorder;
 mod state;
 mod steps;
-#[cfg(test)]
-mod tests;
 
 pub use arena::{Arena, MAX_NODES, MAX_PLACES};
 pub use copies::Copies;

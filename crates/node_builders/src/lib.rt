@@ -10,8 +10,6 @@ mod building;
 mod field_table;
 mod needed;
 mod takes;
-#[cfg(test)]
-mod tests;
 mod values;
 
 pub use arg::{BuildArg, BuildFault};

@@ -13,8 +13,6 @@ mod resolving;
 mod role;
 mod scope;
 mod scoping;
-#[cfg(test)]
-mod tests;
 mod walk;
 
 pub use climbing::{is_global, is_scope, outer, scope_of};

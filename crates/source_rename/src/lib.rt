@@ -13,8 +13,6 @@ mod names;
 mod patch;
 mod places;
 mod renaming;
-#[cfg(test)]
-mod tests;
 
 pub use fault::RenameError;
 pub use first_rename::is_plain_name;

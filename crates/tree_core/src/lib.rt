@@ -13,8 +13,6 @@ mod lists;
 mod sameness;
 mod scalars;
 mod span;
-#[cfg(test)]
-mod tests;
 mod tree;
 mod units;
 

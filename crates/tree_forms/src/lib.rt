@@ -8,8 +8,6 @@ mod fronts;
 mod reading;
 mod slots;
 mod spellings;
-#[cfg(test)]
-mod tests;
 mod variant;
 
 pub use chains::{links, links_below};

@@ -11,8 +11,6 @@ mod field_table;
 mod groups;
 mod kind;
 mod kind_table;
-#[cfg(test)]
-mod tests;
 
 pub use builders::{BuilderArg, builder};
 pub use field_defs::{FieldDef, FieldShape, fields, is_list, scalar_count, slot_count, slots};

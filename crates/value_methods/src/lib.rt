@@ -12,8 +12,6 @@ mod searching;
 mod slicing;
 mod spelling;
 mod splitting;
-#[cfg(test)]
-mod tests;
 mod text_methods;
 
 pub use methods::{ListMethod, TextMethod, call_list_method, call_text_method};
