@@ -131,7 +131,7 @@ fn is_constant(walk: &Walk<'_>, target: &Tree) -> bool {
         return false;
     }
     match walk.names.class_of(text(target, 0)) {
-        Some(class) => class != Class::Let,
+        Some(class) => !class.may_write(),
         None => is_text(target, 0, "undefined"),
     }
 }

@@ -1,5 +1,8 @@
 //! The names that the open blocks of a script declare.
 
+ghost use Rattle.std.specs.Prelude.{◌≡◌};
+ghost use Rattle.script_check.specs.Writes.{may_write};
+
 use crate::form::ScriptError;
 use indexmap::IndexSet;
 use std::alloc::Global;
@@ -11,6 +14,21 @@ pub enum Class {
     Let,
     Const,
     Function,
+}
+
+impl Class {
+    /// Whether a script may write a name that is declared so (for constants ECMA-262, clause 9.1.1.1.5,
+    /// SetMutableBinding).
+    #[tactic(auto, unfolding(crate::specs::Writes::may_write))]
+    pub fn may_write(self) -> bool
+        ensures { result ≡ may_write self }
+    {
+        match self {
+            Class::Let => true,
+            Class::Const => false,
+            Class::Function => false,
+        }
+    }
 }
 
 // A name of an open block: the declaration of the same name in the blocks around it, and whether the

@@ -7,6 +7,7 @@ use js_source::parse;
 use js_tokens::units;
 use node_arena::Arena;
 use script_check::{Script, ScriptError, check};
+use script_code::Code;
 use script_eval::{Outcome, Ran, prepare, run};
 use script_values::Heap;
 use std::alloc::Global;
@@ -216,6 +217,48 @@ const FAULTS: &[Row] = &[
         "Fault BadOperand at 23 left 70",
     ),
     (
+        "printed_before_a_change",
+        concat!(
+            "module.exports = (f, { j }) => { const root = j(f.source); const text = ",
+            "root.toSource(); root.find(j.Identifier).remove(); return text; };"
+        ),
+        100,
+        "Fault ChangedAfterPrint at 17 left 71",
+    ),
+    (
+        "collection_of_a_node_without_a_place",
+        "module.exports = (f, { j }) => { j(j.identifier(\"b\")); };",
+        100,
+        "Fault Foreign at 33 left 86",
+    ),
+    (
+        "inserted_beside_the_program",
+        "module.exports = (f, { j }) => { j(f.source).insertAfter(j.emptyStatement()); };",
+        100,
+        "Fault NotInList at 33 left 82",
+    ),
+    (
+        "text_without_end",
+        "module.exports = () => { let t = \"x\"; while (true) t += t; };",
+        1000,
+        "Fault TextLong at 51 left 904",
+    ),
+    (
+        "list_without_end",
+        "module.exports = () => { let l = [1]; while (true) l = l.concat(l); };",
+        10000000,
+        "Fault ListLong at 55 left 5805551",
+    ),
+    (
+        "nodes_without_end",
+        concat!(
+            "module.exports = (f, { j }) => { let n = j.arrayExpression([]); while (true) ",
+            "n = j.arrayExpression([n, n]); };"
+        ),
+        10000000,
+        "Fault NodesFull at 81 left 7902649",
+    ),
+    (
         "thrown_in_a_function",
         "module.exports = () => { [1, 2].forEach(n => { throw n; }); };",
         80,
@@ -351,7 +394,8 @@ fn source_of(alloc: Global, text: &str) -> Option<Source> {
     Source::new(bytes).ok()
 }
 
-fn parsed_of(alloc: Global, text: &str) -> Option<Parsed> {
+/// The tree of a text.
+pub fn parsed_of(alloc: Global, text: &str) -> Option<Parsed> {
     parse(alloc, &source_of(alloc, text)?).ok()
 }
 
@@ -371,22 +415,27 @@ fn outcome_text(alloc: Global, ran: Ran) -> Option<String> {
     text.ok()
 }
 
-// Runs a checked script over the source.
-fn run_over(alloc: Global, script: &Script, fuel: u64) -> Option<String> {
-    let code = prepare(alloc, script).ok()?;
+/// The host of a prepared script over a source.
+pub fn host_of(alloc: Global, code: &Code, source: &str) -> Option<Host> {
     let mut arena = Arena::new(alloc).ok()?;
-    let root = load(alloc, &mut arena, &parsed_of(alloc, SOURCE)?).ok()?;
+    let root = load(alloc, &mut arena, &parsed_of(alloc, source)?).ok()?;
     let mut heap = Heap::new(alloc, &code.words).ok()?;
-    let text = units(alloc, SOURCE.as_bytes(), false).ok()?;
+    let text = units(alloc, source.as_bytes(), false).ok()?;
     let text = heap.text(text.get()).ok()?;
-    let mut host = Host::new(alloc, arena, root, heap, text);
-    let ran = run(&code, &mut host, "a.js", fuel).ok()?;
+    Some(Host::new(alloc, arena, root, heap, text))
+}
+
+// Runs a checked script over the source, which has this name.
+fn run_over(alloc: Global, script: &Script, name: &str, fuel: u64) -> Option<String> {
+    let code = prepare(alloc, script).ok()?;
+    let mut host = host_of(alloc, &code, SOURCE)?;
+    let ran = run(&code, &mut host, name, fuel).ok()?;
     outcome_text(alloc, ran)
 }
 
 fn outcome_of(alloc: Global, script: &str, fuel: u64) -> Option<String> {
     match check(alloc, parsed_of(alloc, script)?) {
-        Ok(script) => run_over(alloc, &script, fuel),
+        Ok(script) => run_over(alloc, &script, "a.js", fuel),
         Err(ScriptError::Form(form)) => {
             let (name, at) = (form.kind.name(), form.at);
             format!(in alloc; "form {name} at {at}").ok()
@@ -428,4 +477,22 @@ fn faults(rt: HostRuntime) {
 #[test]
 fn parts(rt: HostRuntime) {
     assert!(rt; try_rows(&rt, PARTS));
+}
+
+// How a script ends over a file whose name has so many characters.
+fn outcome_of_name(alloc: Global, count: u32) -> Option<String> {
+    let mut name = String::new(alloc);
+    for _character in 0..count {
+        name.push('a').ok()?;
+    }
+    let script = check(alloc, parsed_of(alloc, "module.exports = () => null;")?).ok()?;
+    run_over(alloc, &script, name.as_str(), 10)
+}
+
+#[test]
+fn names_of_files(rt: HostRuntime) {
+    let longest = outcome_of_name(rt.alloc(), 2_097_152).expect(&rt, "memory");
+    assert!(rt; longest.as_str() == "Nothing left 5");
+    let longer = outcome_of_name(rt.alloc(), 2_097_153).expect(&rt, "memory");
+    assert!(rt; longer.as_str() == "Fault TextLong at 17 left 6");
 }

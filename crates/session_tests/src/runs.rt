@@ -2,7 +2,7 @@
 
 use crate::changes::{CHANGES, DEEPENING};
 use crate::layouts::LAYOUTS;
-use crate::tables::{LIMITS, RENAMED, ROWS, RUNS, SCRIPT, SCRIPT_RUNS, SOURCE};
+use crate::tables::{LIMITS, NO_TEXTS, RENAMED, ROWS, RUNS, SCRIPT, SCRIPT_RUNS, SOURCE};
 use cm_store::{
     Calls, Files, MemorySink, MemoryStore, Store, StoredFile, UnnamedCount, UnnamedList,
 };
@@ -28,9 +28,23 @@ fn store_of(
     source: &[u8],
     fail: Option<u64>,
 ) -> Result<MemoryStore, AllocError> {
+    let script = match script {
+        Some(script) => Some(script.as_bytes()),
+        None => None,
+    };
+    store_of_bytes(alloc, script, names, source, fail)
+}
+
+fn store_of_bytes(
+    alloc: Global,
+    script: Option<&[u8]>,
+    names: &[&str],
+    source: &[u8],
+    fail: Option<u64>,
+) -> Result<MemoryStore, AllocError> {
     let mut files: Files = Items::new(alloc);
     if let Some(script) = script {
-        files.push(StoredFile::new(alloc, "s.js", script.as_bytes())?)?;
+        files.push(StoredFile::new(alloc, "s.js", script)?)?;
     }
     for name in names {
         files.push(StoredFile::new(alloc, name, source)?)?;
@@ -209,6 +223,32 @@ fn script_runs(rt: HostRuntime) -> Result<(), Fail> {
             wanted,
         };
         assert!(rt; comes_out(alloc, &run, None)?, "for {wanted}");
+    }
+    Ok(())
+}
+
+// What is written where the script holds these bytes.
+fn refusal(
+    alloc: Global,
+    front: &[u8],
+    piece: u8,
+    times: u32,
+) -> Result<(Status, Vec<u8>), AllocError> {
+    let mut script = front.to_vec(alloc)?;
+    for _time in 0..times {
+        script.push(piece)?;
+    }
+    let mut store = store_of_bytes(alloc, Some(script.as_slice()), &["a.js"], SOURCE, None)?;
+    outcome(alloc, "-t s.js a.js", &mut store, None)
+}
+
+#[test]
+fn scripts_that_are_no_texts(rt: HostRuntime) -> Result<(), Fail> {
+    let alloc = rt.alloc();
+    for (front, piece, times, wanted) in NO_TEXTS.iter() {
+        let (status, written) = refusal(alloc, front, *piece, *times)?;
+        assert!(rt; status == Status::NoScript, "for {wanted}");
+        assert!(rt; written.as_slice() == wanted.as_bytes(), "for {wanted}");
     }
     Ok(())
 }

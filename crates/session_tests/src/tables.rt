@@ -335,6 +335,23 @@ pub const SCRIPT_RUNS: [(&str, &str, Status, &str); 12] = [
     ),
 ];
 
+// Scripts that are no text of a source: a front, a piece so many times, and what is written.
+pub const NO_TEXTS: [(&[u8], u8, u32, &str); 3] = [
+    (b"abc\xFF", b' ', 9, "script s.js: not UTF-8 at 3\n"),
+    (
+        b"",
+        b' ',
+        2_097_152,
+        "script s.js: form NoExport at 2097152\n",
+    ),
+    (
+        b"",
+        b' ',
+        2_097_153,
+        "script s.js: longer than 2097152 bytes\n",
+    ),
+];
+
 // What stands at a limit and beyond it: a front, a piece so many times, a back, and the row's front.
 pub const LIMITS: [(&str, &str, u32, &str, &str); 7] = [
     ("a", ".a", 997, ";", "ok a.js\ntext 1996\n"),
