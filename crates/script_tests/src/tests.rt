@@ -244,21 +244,6 @@ const FAULTS: &[Row] = &[
         "Fault TextLong at 51 left 904",
     ),
     (
-        "list_without_end",
-        "module.exports = () => { let l = [1]; while (true) l = l.concat(l); };",
-        10000000,
-        "Fault ListLong at 55 left 5805551",
-    ),
-    (
-        "nodes_without_end",
-        concat!(
-            "module.exports = (f, { j }) => { let n = j.arrayExpression([]); while (true) ",
-            "n = j.arrayExpression([n, n]); };"
-        ),
-        10000000,
-        "Fault NodesFull at 81 left 7902649",
-    ),
-    (
         "thrown_in_a_function",
         "module.exports = () => { [1, 2].forEach(n => { throw n; }); };",
         80,
