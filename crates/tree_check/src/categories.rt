@@ -16,12 +16,13 @@ use crate::kinds::{
     is_super, is_template, is_variables,
 };
 use crate::position::Position;
+use crate::slot_table::{SlotTable, Taken};
 use js_forms::{
     Access, Category, Flow, Form, Key, Link, Operator, Piece, Spelling, Standing, Variable, pieces,
 };
 use js_tokens::{Punctuator, Word};
 use tree_core::{Place, Scalars, Slot, Tree};
-use tree_forms::{Variant, child, is_expression, is_mirror, slot_at};
+use tree_forms::{Variant, child, is_expression};
 use type_defs::Kind;
 
 // Whether the node is a statement, or declares variables by `var`.
@@ -276,16 +277,16 @@ fn is_vacant(slot: &Slot) -> bool {
 }
 
 // Whether the rule on shorthands judges what stands in the slot: a mirror, or the value beside it.
-fn is_shorthand_part(variant: Variant, number: usize) -> bool {
-    matches!(variant.form, Form::ShorthandProperty) || is_mirror(variant, number)
+fn is_shorthand_part(variant: Variant, taken: Taken) -> bool {
+    matches!(variant.form, Form::ShorthandProperty) || taken.is_mirror
 }
 
-// Whether the slot of this number takes what stands there.
-fn takes_slot(variant: Variant, owner: &Tree, number: usize, slot: &Slot) -> bool {
-    if is_shorthand_part(variant, number) {
+// Whether the slot, which takes this, takes what stands there.
+fn takes_slot(variant: Variant, owner: &Tree, taken: Taken, slot: &Slot) -> bool {
+    if is_shorthand_part(variant, taken) {
         return true;
     }
-    let Some(place) = slot_at(variant, number) else {
+    let Some(place) = taken.place else {
         return is_vacant(slot);
     };
     match slot {
@@ -294,10 +295,11 @@ fn takes_slot(variant: Variant, owner: &Tree, number: usize, slot: &Slot) -> boo
     }
 }
 
-fn takes_slots(variant: Variant, owner: &Tree) -> bool {
+fn takes_slots(table: &SlotTable, variant: Variant, owner: &Tree) -> bool {
     let slots = owner.slots.as_slice();
     for number in 0..slots.len() {
-        if !takes_slot(variant, owner, number, &slots[number]) {
+        let taken = table.at(owner.kind, variant, number);
+        if !takes_slot(variant, owner, taken, &slots[number]) {
             return false;
         }
     }
@@ -386,11 +388,11 @@ fn usual_spelling(form: Form) -> Spelling {
     }
 }
 
-fn is_misplaced_in(node: &Tree, form: Option<Form>) -> bool {
+fn is_misplaced_in(table: &SlotTable, node: &Tree, form: Option<Form>) -> bool {
     match form {
         Some(form) => {
             let spelling = usual_spelling(form);
-            !takes_slots(Variant { form, spelling }, node)
+            !takes_slots(table, Variant { form, spelling }, node)
         }
         None => false,
     }
@@ -403,12 +405,17 @@ fn is_first(position: &Position<'_>) -> bool {
 /// Whether a slot of the node, in this form, does not take what stands there, or the node is the
 /// tree's first and no program. Where the scalars are those of no form, the slots are judged by a
 /// usual form of the kind.
-pub fn is_misplaced(node: &Tree, variant: Option<Variant>, position: &Position<'_>) -> bool {
+pub fn is_misplaced(
+    table: &SlotTable,
+    node: &Tree,
+    variant: Option<Variant>,
+    position: &Position<'_>,
+) -> bool {
     if is_first(position) && !matches!(node.kind, Kind::Program) {
         return true;
     }
     match variant {
-        Some(variant) => !takes_slots(variant, node),
-        None => is_misplaced_in(node, usual(node)),
+        Some(variant) => !takes_slots(table, variant, node),
+        None => is_misplaced_in(table, node, usual(node)),
     }
 }

@@ -16,6 +16,7 @@ use crate::position::Position;
 use crate::rule::Rule;
 use crate::scalars::has_scalars;
 use crate::shorthands::is_shorthand_of_one_name;
+use crate::slot_table::SlotTable;
 use crate::templates::has_template_text;
 use js_forms::Form;
 use std::alloc::{AllocError, Global};
@@ -116,6 +117,7 @@ fn broken_in_form(
 /// it there.
 pub fn broken_rule(
     alloc: Global,
+    table: &SlotTable,
     node: &Tree,
     variant: Option<Variant>,
     position: &Position<'_>,
@@ -123,7 +125,7 @@ pub fn broken_rule(
     if is_missing(node, position.place.category) {
         return Ok(Some(Rule::Missing));
     }
-    if is_misplaced(node, variant, position) {
+    if is_misplaced(table, node, variant, position) {
         return Ok(Some(Rule::Category));
     }
     match variant {

@@ -28,6 +28,7 @@ mod position;
 mod rule;
 mod scalars;
 mod shorthands;
+mod slot_table;
 mod templates;
 mod walk;
 

@@ -4,9 +4,10 @@ ghost use Rattle.std.specs.Prelude.{◌≡◌};
 ghost use Rattle.tree_check.specs.Forms as spec;
 
 use crate::cursor::{Cursor, places_at};
+use crate::slot_table::Taken;
 use js_forms::{Context, Form, Place};
 use tree_core::Tree;
-use tree_forms::{ALONE, Variant, child, slot_at};
+use tree_forms::{ALONE, Variant, child};
 use type_defs::Kind;
 
 /// What is told once of a node's lists, for all that stands there.
@@ -114,21 +115,23 @@ fn goes_on(form: Form, on_spine: bool) -> bool
     }
 }
 
-fn place_at(variant: Variant, slot: usize) -> Place {
-    match slot_at(variant, slot) {
+fn place_of(taken: Taken) -> Place {
+    match taken.place {
         Some(place) => place,
         None => ALONE,
     }
 }
 
-/// The position of the child that the cursor passed last, of a node in this form at the position.
+/// The position of the child that the cursor passed last, of a node in this form at the position,
+/// whose slot takes this.
 pub fn below<'a>(
     above: &Position<'a>,
+    taken: Taken,
     variant: Variant,
     fronts: Fronts,
     cursor: &Cursor<'a>,
 ) -> Position<'a> {
-    let place = place_at(variant, cursor.slot);
+    let place = place_of(taken);
     Position {
         parent: Some(Parent {
             node: cursor.node,

@@ -5,6 +5,7 @@ use crate::fault::CheckFault;
 use crate::judging::broken_rule;
 use crate::position::{Fronts, Position, below, fronts_of, outermost};
 use crate::rule::{MAX_DEPTH, Rule};
+use crate::slot_table::SlotTable;
 use sqlite_items::Items;
 use std::alloc::{AllocError, Global};
 use tree_core::{Address, Tree};
@@ -67,11 +68,15 @@ fn deep_node(alloc: Global, tree: &Tree) -> Result<Option<Address>, AllocError> 
 // Judges the node at the position.
 fn pass<'a>(
     alloc: Global,
+    table: &mut SlotTable,
     node: &'a Tree,
     position: Position<'a>,
 ) -> Result<Passed<'a>, AllocError> {
     let variant = form(node, position.place);
-    if let Some(rule) = broken_rule(alloc, node, variant, &position)? {
+    if let Some(variant) = variant {
+        table.learn(node.kind, variant, node.slots.len());
+    }
+    if let Some(rule) = broken_rule(alloc, table, node, variant, &position)? {
         return Ok(Passed::Broken(rule));
     }
     match variant {
@@ -93,15 +98,21 @@ fn frame_address(alloc: Global, path: &[Frame<'_>]) -> Result<Address, AllocErro
     Ok(Address::new(steps))
 }
 
-// Judges the child that the frame passed, the last of the path, and goes on with its children.
+// Judges the child that the last frame of the path passed, and goes on with its children.
 fn pass_child<'a>(
     alloc: Global,
+    table: &mut SlotTable,
     path: &mut Vec<Frame<'a>>,
-    frame: &Frame<'a>,
+    at: usize,
     node: &'a Tree,
 ) -> Result<Option<Rule>, AllocError> {
-    let position = below(&frame.position, frame.variant, frame.fronts, &frame.cursor);
-    match pass(alloc, node, position)? {
+    let Some(frame) = path.get(at) else {
+        return Err(AllocError);
+    };
+    let cursor = frame.cursor;
+    let taken = table.at(cursor.node.kind, frame.variant, cursor.slot);
+    let position = below(&frame.position, taken, frame.variant, frame.fronts, &cursor);
+    match pass(alloc, table, node, position)? {
         Passed::Broken(rule) => Ok(Some(rule)),
         Passed::Whole(below) => {
             if !node.slots.is_empty() {
@@ -112,20 +123,38 @@ fn pass_child<'a>(
     }
 }
 
-// The first bad node below the first node.
-fn bad_below(alloc: Global, first: Frame<'_>) -> Result<Option<BadNode>, AllocError> {
+// Takes a step of the last frame's cursor.
+fn step<'a>(path: &mut Vec<Frame<'a>>, at: usize) -> Step<'a> {
+    let Some(frame) = path.get(at) else {
+        return Step::Done;
+    };
+    let mut cursor = frame.cursor;
+    let step = cursor.step();
+    if at < path.len() {
+        path[at].cursor = cursor;
+    }
+    step
+}
+
+// The first bad node below the first node. A node that stands too deep is none yet.
+fn bad_below(
+    alloc: Global,
+    table: &mut SlotTable,
+    first: Frame<'_>,
+) -> Result<Option<BadNode>, AllocError> {
     let mut path = Vec::new(alloc);
     path.push(first)?;
     for _turn in 0..usize::MAX {
-        let Some(mut frame) = path.pop() else {
+        let Some(at) = path.len().checked_sub(1) else {
             return Ok(None);
         };
-        match frame.cursor.step() {
-            Step::Done => {}
-            Step::Passed => path.push(frame)?,
+        match step(&mut path, at) {
+            Step::Done => {
+                path.pop();
+            }
+            Step::Passed => {}
             Step::Child(node) => {
-                path.push(frame)?;
-                if let Some(rule) = pass_child(alloc, &mut path, &frame, node)? {
+                if let Some(rule) = deep_or_bad(alloc, table, &mut path, at, node)? {
                     let address = frame_address(alloc, &path)?;
                     return Ok(Some(BadNode { address, rule }));
                 }
@@ -135,17 +164,28 @@ fn bad_below(alloc: Global, first: Frame<'_>) -> Result<Option<BadNode>, AllocEr
     Err(AllocError)
 }
 
-fn bad_node(alloc: Global, tree: &Tree) -> Result<Option<BadNode>, AllocError> {
-    if let Some(address) = deep_node(alloc, tree)? {
-        let rule = Rule::Depth;
-        return Ok(Some(BadNode { address, rule }));
+fn deep_or_bad<'a>(
+    alloc: Global,
+    table: &mut SlotTable,
+    path: &mut Vec<Frame<'a>>,
+    at: usize,
+    node: &'a Tree,
+) -> Result<Option<Rule>, AllocError> {
+    if at >= MAX_DEPTH - 1 {
+        return Ok(Some(Rule::Depth));
     }
-    match pass(alloc, tree, outermost())? {
+    pass_child(alloc, table, path, at, node)
+}
+
+// The first bad node in preorder, where those that stand too deep are told when they are met.
+fn bad_node(alloc: Global, tree: &Tree) -> Result<Option<BadNode>, AllocError> {
+    let mut table = SlotTable::new(alloc)?;
+    match pass(alloc, &mut table, tree, outermost())? {
         Passed::Broken(rule) => {
             let address = Address::new(Items::new(alloc));
             Ok(Some(BadNode { address, rule }))
         }
-        Passed::Whole(first) => bad_below(alloc, first),
+        Passed::Whole(first) => bad_below(alloc, &mut table, first),
     }
 }
 
@@ -153,8 +193,14 @@ fn bad_node(alloc: Global, tree: &Tree) -> Result<Option<BadNode>, AllocError> {
 /// not, the first node in preorder that breaks one, and the first rule that this node breaks; a node
 /// that stands too deep comes before all others.
 pub fn check(alloc: Global, tree: &Tree) -> Result<(), CheckFault> {
-    match bad_node(alloc, tree)? {
-        None => Ok(()),
-        Some(BadNode { address, rule }) => Err(CheckFault::BadNode { address, rule }),
+    let Some(BadNode { address, rule }) = bad_node(alloc, tree)? else {
+        return Ok(());
+    };
+    match deep_node(alloc, tree)? {
+        Some(address) => Err(CheckFault::BadNode {
+            address,
+            rule: Rule::Depth,
+        }),
+        None => Err(CheckFault::BadNode { address, rule }),
     }
 }
