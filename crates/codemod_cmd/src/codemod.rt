@@ -21,7 +21,7 @@ use script_code::Code;
 use script_eval::run;
 use script_values::Heap;
 use std::alloc::{AllocError, Global};
-use tree_core::Parsed;
+use tree_core::{Parsed, Units};
 use tree_freeing::{free_parsed, free_tree};
 
 /// A script that was checked and prepared, the fuel that it has for each file, and the layout of the
@@ -31,6 +31,27 @@ pub struct Codemod {
     pub code: Code,
     pub fuel: u64,
     pub layout: Layout,
+}
+
+fn is_ascii(bytes: &[u8]) -> bool {
+    for byte in bytes {
+        if *byte > 0x7F {
+            return false;
+        }
+    }
+    true
+}
+
+// The code units of a source's text. Most sources have one for each byte.
+fn text_units(alloc: Global, bytes: &[u8]) -> Result<Units, AllocError> {
+    if !is_ascii(bytes) {
+        return units(alloc, bytes, false);
+    }
+    let mut text = Vec::with_capacity(alloc, bytes.len())?;
+    for byte in bytes {
+        text.push(u16::from(*byte))?;
+    }
+    Ok(Units::new(text))
 }
 
 // The host of a run over the source: its tree in the forest, its text and the words of the script in
@@ -50,7 +71,7 @@ fn host_of(
     let Ok(mut heap) = Heap::new(alloc, code.words.as_slice()) else {
         return Err(AllocError);
     };
-    let text = units(alloc, source.bytes(), false)?;
+    let text = text_units(alloc, source.bytes())?;
     match heap.text(text.get()) {
         Ok(text) => Ok(Host::new(alloc, arena, root, heap, text)),
         Err(_) => Err(AllocError),
