@@ -32,10 +32,17 @@ fn index_of(kind: Kind, number: usize) -> usize {
         .saturating_add(number)
 }
 
+// A form, and of how many of its slots it is kept what they take.
+#[derive(Clone, Copy)]
+struct Known {
+    variant: Variant,
+    count: usize,
+}
+
 /// The forms that the kinds had last, and what the slots of each take.
 #[derive(Drop)]
 pub struct SlotTable {
-    variants: Vec<Option<Variant>>,
+    known: Vec<Option<Known>>,
     slots: Vec<Taken>,
 }
 
@@ -47,15 +54,21 @@ impl SlotTable {
             is_mirror: false,
         };
         Ok(SlotTable {
-            variants: Vec::from_elem(alloc, None, KINDS)?,
+            known: Vec::from_elem(alloc, None, KINDS)?,
             slots: Vec::from_elem(alloc, nothing, KINDS * MAX_SLOTS)?,
         })
     }
 
-    fn has(&self, kind: Kind, variant: Variant) -> bool {
-        match self.variants.get(kind as usize) {
-            Some(Some(last)) => *last == variant,
-            _ => false,
+    // Of how many slots of the kind it is kept what they take in this form.
+    fn count(&self, kind: Kind, variant: Variant) -> usize {
+        match self.known.get(kind as usize) {
+            Some(Some(known)) => {
+                if known.variant == variant {
+                    return known.count;
+                }
+                0
+            }
+            _ => 0,
         }
     }
 
@@ -68,21 +81,22 @@ impl SlotTable {
 
     /// Keeps what so many slots of a node of the kind take, which has this form.
     pub fn learn(&mut self, kind: Kind, variant: Variant, count: usize) {
-        if count == 0 || self.has(kind, variant) {
+        let count = count.min(MAX_SLOTS);
+        if count <= self.count(kind, variant) {
             return;
         }
-        for number in 0..count.min(MAX_SLOTS) {
+        for number in 0..count {
             self.put(kind, number, taken_by(variant, number));
         }
         let at = kind as usize;
-        if at < self.variants.len() {
-            self.variants[at] = Some(variant);
+        if at < self.known.len() {
+            self.known[at] = Some(Known { variant, count });
         }
     }
 
     /// What the slot takes of a node of the kind, which has this form.
     pub fn at(&self, kind: Kind, variant: Variant, number: usize) -> Taken {
-        if number >= MAX_SLOTS || !self.has(kind, variant) {
+        if number >= self.count(kind, variant) {
             return taken_by(variant, number);
         }
         match self.slots.get(index_of(kind, number)) {
