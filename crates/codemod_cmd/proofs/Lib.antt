@@ -10,3 +10,4 @@ pub mod Written
 pub mod Plain
 pub mod Refusals
 pub mod Told
+pub mod RunEnded
