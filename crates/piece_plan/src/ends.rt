@@ -90,11 +90,17 @@ fn ending(node: &Tree) -> Option<&Tree> {
     None
 }
 
-fn closed(node: &Tree) -> Option<&Tree> {
-    if !takes_semicolon(node.kind) {
-        return None;
+// Whether the export ends as the declaration does that it exports.
+fn ends_as_declaration(node: &Tree) -> bool {
+    match node.kind {
+        Kind::ExportDefaultDeclaration => is_declaration(child(node, 0)),
+        Kind::ExportNamedDeclaration => child(node, 0).is_some(),
+        _ => false,
     }
-    if matches!(node.kind, Kind::ExportDefaultDeclaration) && is_declaration(child(node, 0)) {
+}
+
+fn closed(node: &Tree) -> Option<&Tree> {
+    if !takes_semicolon(node.kind) || ends_as_declaration(node) {
         return None;
     }
     Some(node)

@@ -38,7 +38,7 @@ pub const DEEPENING: &str =
     "module.exports = (file, { j }) => { const root = j(file.source); let e = j.identifier('b'); let i = 0; while (i < 1000) { e = j.memberExpression(e, j.identifier('c')); i += 1; } root.find(j.Identifier, { name: 'a' }).replaceWith(e); return root.toSource(); };";
 
 // Scripts, sources, and the rows of dry runs over one file.
-pub const CHANGES: [(&str, &[u8], &str); 21] = [
+pub const CHANGES: [(&str, &[u8], &str); 23] = [
     (
         NAMING,
         b"foo(a, 1 +  2);",
@@ -51,6 +51,17 @@ pub const CHANGES: [(&str, &[u8], &str); 21] = [
     ),
     (NAMING, b"x = { a };", "ok a.js\ntext 10\nx = { b };\n"),
     (NAMING, b"c;", "unmodified a.js\n"),
+    // An export of a declaration ends as that does.
+    (
+        NAMING,
+        b"export function a() {}\n;c",
+        "ok a.js\ntext 25\nexport function b() {}\n;c\n",
+    ),
+    (
+        NAMING,
+        b"export class a {} a",
+        "ok a.js\ntext 19\nexport class b {} b\n",
+    ),
     (
         NAMING,
         b"`${a}\n a`;\r\n\tif (a) { a }\r\n",
